@@ -1,0 +1,11 @@
+pub mod Checks
+pub mod Sound
+pub mod Steps
+pub mod Bearer
+pub mod Numbers
+pub mod Outcomes
+pub mod Sight
+pub mod Series
+pub mod Shown
+pub mod Trails
+pub mod OneWay

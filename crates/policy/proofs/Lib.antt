@@ -1,0 +1,4 @@
+pub mod Lowest
+pub mod Sheets
+pub mod Answers
+pub mod Lawful

@@ -1,0 +1,10 @@
+pub mod Lowest
+pub mod LowestLaws
+pub mod Grants
+pub mod Passages
+pub mod PassageLaws
+pub mod Cells
+pub mod Holds
+pub mod Sheets
+pub mod Laws
+pub mod Abstract

@@ -1,0 +1,4 @@
+pub mod Finds
+pub mod Highest
+pub mod Adds
+pub mod Lawful

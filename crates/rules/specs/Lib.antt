@@ -1,0 +1,4 @@
+pub mod Typing
+pub mod Held
+pub mod Ranks
+pub mod Laws

@@ -1,0 +1,4 @@
+pub mod Begins
+pub mod Entries
+pub mod Holdings
+pub mod Model
