@@ -2,3 +2,4 @@ pub mod Parts
 pub mod Fronts
 pub mod Copies
 pub mod Shows
+pub mod Bits

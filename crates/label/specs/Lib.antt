@@ -4,3 +4,4 @@ pub mod Names
 pub mod Paths
 pub mod Texts
 pub mod Shown
+pub mod Sets

@@ -2,6 +2,7 @@
 ghost use mathlib.Core.Path.{_≡_};
 ghost use Rattle.std.specs.Options.{mapped};
 ghost use Rattle.label.specs.Letters.{bit, has, union, none};
+ghost use Rattle.label.specs.Sets.{Sets};
 
 // The letters in the order in which they are written: read, write, append, execute, create and remove, descend.
 pub const LETTERS: [char; 6] = ['r', 'w', 'a', 'x', 'c', 'd'];
@@ -63,4 +64,11 @@ impl Rights {
             None => false,
         }
     }
+}
+
+// Rights are sets of letters.
+pub fn rights_are_sets() -> bool
+    ensures { λ _. ⌜ Sets ⌝ }
+{
+    true
 }

@@ -162,9 +162,6 @@ module _ (xs r ys zs : List ℕ) (at : ℕ) (o : Option (List ℕ)) (p : r ≡ x
       (λ ne. getD-set-other (table xs) at k o None ne ∙ sym (cond-false _ _ _ (ne-eqb k at ne)))
       (cases-eq k at))
 
-  pub set-keeps-places : packedPlaces zs ≡ packedPlaces xs
-  set-keeps-places = sym (holds-set .places) ∙ length-set (table xs) at o ∙ length-table xs
-
 module _ (xs r ys zs : List ℕ) (at : ℕ) (b : List ℕ) (p : r ≡ xs) (q : zs ≡ ys) (h : Holds ys (set (table r) at (Some b))) (lt : at < packedPlaces xs) (le : length b ≤ 64) where
   pub put-is-held : packedContents zs ≡ putContents (packedPlaces xs) (packedContents xs) at b
   put-is-held = set-is-held xs r ys zs at (Some b) p q h lt ∙ sym (cond-true _ _ _ (lt-ltb _ _ lt) ∙ cond-true _ _ _ (le-leb _ _ le))

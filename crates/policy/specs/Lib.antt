@@ -8,3 +8,4 @@ pub mod Holds
 pub mod Sheets
 pub mod Laws
 pub mod Abstract
+pub mod Asks

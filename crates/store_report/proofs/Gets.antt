@@ -20,10 +20,6 @@ front-is-held (Some xs) buffer len e = let n : length xs ≡ len = cc in ap Some
 pub found-is-held : (o : Option (List ℕ)) (buffer out : List ℕ) (len : ℕ) → Some len ≡ mapped length o → out ≡ laid o buffer → o ≡ Some (take len out)
 found-is-held o buffer out len e is = front-is-held o buffer len e ∙ ap (λ u. Some (take len u)) (sym is)
 
-pub none-is-absent : (o : Option (List ℕ)) → None ≡ mapped length o → o ≡ None
-none-is-absent None e = refl
-none-is-absent (Some xs) e = let z : _≡_ {A = ℕ} 0 1 = cc in absurd (omega arith)
-
 -- the line of what was found is the line of what the place holds
 pub found-line : {T E : Type 0} (r : Result T E) (now before : List ℕ) (p : ℕ) (o : Option (List ℕ)) (out : List ℕ) (len n : ℕ) → o ≡ Some (take len out) → n ≡ len → made r (λ _. now ≡ before ++ line p (Some (take n out))) → made r (λ _. now ≡ before ++ line p o)
 found-line r now before p o out len n e same h = rw (e, ← same) h

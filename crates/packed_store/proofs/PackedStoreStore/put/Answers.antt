@@ -6,7 +6,7 @@ use Rattle.std.proofs.shelf.Lists.{take-at}
 use Rattle.std.specs.declared.option.Option.the-variants.{Some}
 use Rattle.store.specs.Meaning.{Octets}
 use Rattle.packed_store.specs.Layout.{packedPlaces}
-use Rattle.packed_store.proofs.Tables.{set-is-intact, set-keeps-places, put-is-held, put-stays-octets}
+use Rattle.packed_store.proofs.Tables.{set-is-intact, put-is-held, put-stays-octets}
 use Rattle.packed_store.proofs.PackedStoreStore.put.Needs as need
 
 pub ghost-self : need.ghost-self
