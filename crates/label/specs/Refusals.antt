@@ -34,3 +34,8 @@ abbrev pub Takes : {X : Type 0} → Option Refusal → X → X → Result (Unit 
 Takes (Some e) before added r after = (r ≡ Err e) × (after ≡ before)
 Takes None before added (Ok u) after = after ≡ added
 Takes None before added (Err e) after = (e ≡ Memory) × (after ≡ before)
+
+-- The same of a call that wants no memory: it is refused and all stays as it was, or it is done.
+abbrev pub Does : {X : Type 0} → Option Refusal → X → X → Result (Unit {0}) Refusal → X → Type 0
+Does (Some e) before added r after = (r ≡ Err e) × (after ≡ before)
+Does None before added r after = (r ≡ Ok tt) × (after ≡ added)

@@ -1,6 +1,6 @@
 //! Adding to the tables. A refused call leaves them as they were.
 ghost use mathlib.Core.Path.{_≡_};
-ghost use Rattle.label.specs.Refusals.{Takes};
+ghost use Rattle.label.specs.Refusals.{Does, Takes};
 ghost use Rattle.tables.specs.Holdings.{withRights, withPassage};
 ghost use Rattle.tables.specs.Model.{model, empty, holdingOf, noDomain, noType, withType, withDomain, withDefault, withRule, withObject, withEntry, withHolding, withApart, refusesType, refusesDomain, refusesDefault, refusesRule, refusesObject, refusesEntry, refusesRights, refusesPassage, refusesApart};
 use crate::entry::Entries;
@@ -69,7 +69,7 @@ impl Tables {
 
     // The domain in which programs start.
     pub fn set_default(&mut self, dom: Dom) -> Result<(), Refusal>
-        ensures { λ r. ⌜ Takes (refusesDefault (model (now (self .entry))) dom) (model (now (self .entry))) (withDefault (model (now (self .entry))) dom) r (model (now (self .exit))) ⌝ }
+        ensures { λ r. ⌜ Does (refusesDefault (model (now (self .entry))) dom) (model (now (self .entry))) (withDefault (model (now (self .entry))) dom) r (model (now (self .exit))) ⌝ }
     {
         if self.first.is_some() {
             return Err(Refusal::Repeated);
@@ -113,7 +113,7 @@ impl Tables {
 
     // Rights of a domain on a type, beside those that it has.
     pub fn add_rights(&mut self, dom: Dom, typ: Typ, rights: Rights) -> Result<(), Refusal>
-        ensures { λ r. ⌜ Takes (refusesRights (model (now (self .entry))) (dom .0) (typ .0)) (model (now (self .entry))) (withHolding (model (now (self .entry))) (dom .0) (withRights (holdingOf (model (now (self .entry))) (dom .0)) (typ .0) rights)) r (model (now (self .exit))) ⌝ }
+        ensures { λ r. ⌜ Does (refusesRights (model (now (self .entry))) (dom .0) (typ .0)) (model (now (self .entry))) (withHolding (model (now (self .entry))) (dom .0) (withRights (holdingOf (model (now (self .entry))) (dom .0)) (typ .0) rights)) r (model (now (self .exit))) ⌝ }
     {
         if self.no_domain(dom) || self.no_type(typ) {
             return Err(Refusal::Undeclared);
@@ -127,7 +127,7 @@ impl Tables {
 
     // A passage of a domain to another.
     pub fn add_passage(&mut self, dom: Dom, how: Passage, to: Dom) -> Result<(), Refusal>
-        ensures { λ r. ⌜ Takes (refusesPassage (model (now (self .entry))) (dom .0) (to .0)) (model (now (self .entry))) (withHolding (model (now (self .entry))) (dom .0) (withPassage (holdingOf (model (now (self .entry))) (dom .0)) how (to .0))) r (model (now (self .exit))) ⌝ }
+        ensures { λ r. ⌜ Does (refusesPassage (model (now (self .entry))) (dom .0) (to .0)) (model (now (self .entry))) (withHolding (model (now (self .entry))) (dom .0) (withPassage (holdingOf (model (now (self .entry))) (dom .0)) how (to .0))) r (model (now (self .exit))) ⌝ }
     {
         if self.no_domain(dom) || self.no_domain(to) {
             return Err(Refusal::Undeclared);
