@@ -168,7 +168,7 @@ fn write_answer(
     }
 }
 
-pub fn write(rt: &LibcRuntime, sealed: &Sealed) -> io::Result<()> {
+pub(crate) fn write(rt: &LibcRuntime, sealed: &Sealed) -> io::Result<()> {
     write_types(rt, sealed.policy())?;
     write_grants(rt, sealed)?;
     write_passages(rt, sealed)?;

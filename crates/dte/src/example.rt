@@ -110,7 +110,7 @@ fn fill_paths(tables: &mut Tables) -> Result<(), Refusal> {
     Ok(())
 }
 
-pub fn five_objects(heap: Global) -> Result<Tables, Refusal> {
+pub(crate) fn five_objects(heap: Global) -> Result<Tables, Refusal> {
     let mut tables = Tables::new(heap);
     declare(&mut tables)?;
     let first = dom(&tables, "d_boot")?;

@@ -99,7 +99,7 @@ fn list(rt: &LibcRuntime, make: Make, file: &str) -> Result<(), AnyError> {
 }
 
 // The words after `store`.
-pub fn run(rt: &LibcRuntime, words: &[String]) -> Result<(), AnyError> {
+pub(crate) fn run(rt: &LibcRuntime, words: &[String]) -> Result<(), AnyError> {
     let [make, file, rest @ ..] = words else {
         return Err(USAGE.into());
     };
