@@ -1,6 +1,6 @@
 -- Separations, one by one.
 use Rattle.std.proofs.Common.{◌≡◌, ℕ, suc, ◌+◌, ◌<◌, ◌≤◌, Bool, true, false, List, [], ◌∷◌, ◌++◌, length, get_or, take, drop, is_some, Some, None, Option, sym, refl, ap, ◌∙◌, subst, arith}
-use Rattle.std.specs.List.{AllByRecursion as All}
+use Rattle.std.specs.List.{AllByRecursion}
 use Rattle.std.proofs.lemmas.List.{take-append-drop, drop_more, take_all}
 use Rattle.label.specs.declared.numbers.Typ.{Typ}
 use Rattle.machine.specs.Flow.{of_type, Chain, NoChain, Shortest}
@@ -25,7 +25,7 @@ module _ (P : Asked) (a : Apart) where
       (by_links r (same_fewest P (among from) (among to) (of_type P a.from.0) (of_type P a.to.0) (same_within P (among from) _ hf) (same_within P (among to) _ ht) r h))
 
 module _ (P : Asked) (aparts : List Apart) (d : Apart) where
-  pub broken_here : (i : ℕ) → i < length aparts → All (KeptApart P) (take i aparts) → Chained P (get_or aparts i d) true → FirstBroken P aparts ((get_or aparts i d).from, (get_or aparts i d).to)
+  pub broken_here : (i : ℕ) → i < length aparts → AllByRecursion (KeptApart P) (take i aparts) → Chained P (get_or aparts i d) true → FirstBroken P aparts ((get_or aparts i d).from, (get_or aparts i d).to)
   broken_here i l kept c =
       record {
         earlier = take i aparts;
@@ -38,5 +38,5 @@ module _ (P : Asked) (aparts : List Apart) (d : Apart) where
         chain = c.1;
       }
 
-  pub all-kept : (i : ℕ) → length aparts ≤ i → All (KeptApart P) (take i aparts) → All (KeptApart P) aparts
-  all-kept i l kept = subst (All (KeptApart P)) (take_all i aparts l) kept
+  pub all-kept : (i : ℕ) → length aparts ≤ i → AllByRecursion (KeptApart P) (take i aparts) → AllByRecursion (KeptApart P) aparts
+  all-kept i l kept = subst (AllByRecursion (KeptApart P)) (take_all i aparts l) kept

@@ -1,6 +1,6 @@
 -- The checks at the end of a text, over the tables with the module joined.
 use Rattle.std.specs.Prelude.{◌≡◌, ℕ, ◌<◌, true, false, List, ◌∷◌, ◌++◌, length, Some, None, Option}
-use Rattle.std.specs.List.{AllByRecursion as All}
+use Rattle.std.specs.List.{AllByRecursion}
 use Rattle.label.specs.declared.numbers.Typ.{Typ}
 use Rattle.machine.specs.Flow.{of_type, Chain, NoChain}
 use Rattle.machine.specs.Policy.{Policy as Asked}
@@ -22,7 +22,7 @@ pub record FirstBroken (P : Asked) (aparts : List Apart) (pair : Typ × Typ) : T
   pub broken : Apart
   pub later : List Apart
   pub all : aparts ≡ earlier ++ broken ∷ later
-  pub kept : All (KeptApart P) earlier
+  pub kept : AllByRecursion (KeptApart P) earlier
   pub types : pair ≡ (broken.from, broken.to)
   pub links : ℕ
   pub chain : Chain P (of_type P broken.from.0) (of_type P broken.to.0) links
@@ -36,7 +36,7 @@ pub record Settled (m : Model) : Type 0 where
   pub complete_is : complete m ≡ true
   pub no_clash : clash m ≡ None
   pub first_is : DeclaresFirst m
-  pub apart : All (KeptApart (asked_of m first_is)) m.aparts
+  pub apart : AllByRecursion (KeptApart (asked_of m first_is)) m.aparts
 
 -- some separation is broken, and all else is well
 pub record Broken (m : Model) (pair : Typ × Typ) : Type 0 where

@@ -1,8 +1,8 @@
 -- A set of letters as bits has what it should.
-use Rattle.std.proofs.Common.{◌≡◌, ℕ, ◌+◌, ◌-◌, ◌*◌, ◌/◌, ◌%◌, ◌^◌, ◌<◌, ◌≤◌, Bool, true, false, cond, not, ◌||◌, eqb, ◌⊎◌, Some, None, Option, sym, refl, ap, ◌∙◌, subst, inl, inr, ⊎_elim, mod-lt, mul-pos, zero-mul, arith, pow_pos}
+use Rattle.std.proofs.Common.{◌≡◌, ℕ, ◌+◌, ◌-◌, ◌*◌, ◌/◌, ◌%◌, ◌^◌, ◌<◌, Bool, true, false, cond, not, ◌||◌, eqb, ◌⊎◌, Some, None, Option, sym, refl, ap, ◌∙◌, subst, inl, inr, ⊎_elim, mod-lt, mul-pos, zero-mul, arith, pow_pos}
 use lib.Bits.{bit_and, bit_or, and_high, or_shr, or_mod}
 use Rattle.std.proofs.lemmas.Bool.{cond_both, cases_eq, eq-eqb, ne_eqb}
-use Rattle.label.specs.Letters.{bit, meets, has, none, union, letter_r, letter_w, letter_a, letter_x, letter_c, letter_d}
+use Rattle.label.specs.Letters.{bit, meets, letter_r, letter_w, letter_a, letter_x, letter_c, letter_d}
 use Rattle.label.specs.Sets.{Sets}
 
 -- a single bit, the one of number k

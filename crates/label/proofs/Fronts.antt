@@ -1,9 +1,9 @@
 -- The test of an ancestor's length is the relation.
-use Rattle.std.proofs.Common.{◌≡◌, ℕ, zero, suc, ◌+◌, ◌-◌, ◌<◌, ◌≤◌, Bool, true, false, ◌&&◌, ◌||◌, eqb, ltb, ◌⊎◌, List, [], ◌∷◌, ◌++◌, length, get_or, take, drop, Decides, sym, refl, ap, ◌∙◌, subst, inl, inr, ⊎_elim, arith, rules}
-use Rattle.std.specs.List.{flat_map, AllByRecursion as All}
-use Rattle.std.proofs.lemmas.List.{append-nil, append_assoc, take_at, get_or_at, get_or_append_left, get_or-append_right, length-append, nil_from_length, length-take}
-use Rattle.std.proofs.ByRecursion.{All-get_or, All-append}
-use Rattle.std.proofs.lemmas.Bool.{cases_lt, cases_eq, and_parts, and_from, or_cases, or_left, or_right, ltb-true, lt-ltb, eqb-true, eq-eqb}
+use Rattle.std.proofs.Common.{◌≡◌, ℕ, zero, suc, ◌+◌, ◌-◌, ◌<◌, true, ◌&&◌, ◌||◌, eqb, ltb, ◌⊎◌, List, [], ◌∷◌, ◌++◌, length, get_or, take, sym, refl, ap, ◌∙◌, subst, inl, inr, ⊎_elim, arith}
+use Rattle.std.specs.List.{AllByRecursion}
+use Rattle.std.proofs.lemmas.List.{append_assoc, take_at, get_or_at, get_or_append_left, get_or-append_right, length-append, nil_from_length, length-take}
+use Rattle.std.proofs.ByRecursion.{All-get_or}
+use Rattle.std.proofs.lemmas.Bool.{cases_lt, and_parts, and_from, or_cases, or_left, or_right, ltb-true, lt-ltb, eqb-true, eq-eqb}
 use Rattle.label.specs.Paths.{PathByte, Component, IsPath, Ancestor, Ancestors, ancestor, slashed, written}
 
 slashed-append : (xs ys : List (List ℕ)) → slashed (xs ++ ys) ≡ slashed xs ++ slashed ys
@@ -18,7 +18,7 @@ record Cut (cs : List (List ℕ)) (n : ℕ) : Type 0 where
   whole : cs ≡ front ++ next ∷ rest
   long : n ≡ length (slashed front)
 
-cut : (cs : List (List ℕ)) (n : ℕ) → All Component cs → n < length (slashed cs) → get_or (slashed cs) n 0 ≡ 47 → Cut cs n
+cut : (cs : List (List ℕ)) (n : ℕ) → AllByRecursion Component cs → n < length (slashed cs) → get_or (slashed cs) n 0 ≡ 47 → Cut cs n
 cut [] n a l e = absurd (omega arith)
 cut (c ∷ cs) zero a l e = record { front = []; next = c; rest = cs; whole = refl; long = refl }
 cut (c ∷ cs) (suc n) a l e =
@@ -38,11 +38,11 @@ slashed-front c cs d ds = slashed-append (c ∷ cs) (d ∷ ds)
 component_long : (c : List ℕ) → Component c → 0 < length c
 component_long c n = ⊎_elim (λ l. l) (λ l. absurd (n.some (nil_from_length c (omega arith)))) (cases_lt 0 (length c))
 
-all_right : (xs ys : List (List ℕ)) → All Component (xs ++ ys) → All Component ys
+all_right : (xs ys : List (List ℕ)) → AllByRecursion Component (xs ++ ys) → AllByRecursion Component ys
 all_right [] ys a = a
 all_right (x ∷ xs) ys a = all_right xs ys a.1
 
-all_left : (xs ys : List (List ℕ)) → All Component (xs ++ ys) → All Component xs
+all_left : (xs ys : List (List ℕ)) → AllByRecursion Component (xs ++ ys) → AllByRecursion Component xs
 all_left [] ys a = tt
 all_left (x ∷ xs) ys a = (a.0, all_left xs ys a.1)
 
@@ -54,7 +54,7 @@ ancestor_from s n l m e =
 pub test_from : (s : List ℕ) (n : ℕ) → Ancestor s n → ancestor s n ≡ true
 test_from s n a = go a.front a.components a.whole a.long
   where
-    go : (f : List (List ℕ)) → All Component (f ++ a.next ∷ a.rest) → s ≡ written (f ++ a.next ∷ a.rest) → n ≡ length (written f) → ancestor s n ≡ true
+    go : (f : List (List ℕ)) → AllByRecursion Component (f ++ a.next ∷ a.rest) → s ≡ written (f ++ a.next ∷ a.rest) → n ≡ length (written f) → ancestor s n ≡ true
     go [] m e l =
         let y : length (a.next ++ slashed a.rest) ≡ length a.next + length (slashed a.rest) = length-append a.next (slashed a.rest) in
         let x : length s ≡ suc (length (a.next ++ slashed a.rest)) = ap length e in
@@ -77,7 +77,7 @@ from_test s n p t = go p.parts p.components p.whole
     hi : n < length s
     hi = ltb-true n (length s) (and_parts (ltb 0 n) _ t'.0).1
 
-    go : (cs : List (List ℕ)) → All Component cs → s ≡ written cs → Ancestor s n
+    go : (cs : List (List ℕ)) → AllByRecursion Component cs → s ≡ written cs → Ancestor s n
     go [] a e = let x : length s ≡ 1 = ap length e in absurd (omega (arith, lo, hi))
     go (c ∷ cs) a e =
         ⊎_elim
@@ -90,7 +90,7 @@ from_test s n p t = go p.parts p.components p.whole
         later : (k : Cut (c ∷ cs) n) (f : List (List ℕ)) → c ∷ cs ≡ f ++ k.next ∷ k.rest → n ≡ length (slashed f) → Ancestor s n
         later k [] w l = absurd (omega (arith, lo, l))
         later k (f ∷ fs) w l =
-            record { front = f ∷ fs; next = k.next; rest = k.rest; components = subst (All Component) w a; whole = e ∙ ap written w; long = l }
+            record { front = f ∷ fs; next = k.next; rest = k.rest; components = subst (AllByRecursion Component) w a; whole = e ∙ ap written w; long = l }
 
 front_is : (s : List ℕ) (n : ℕ) (a : Ancestor s n) → take n s ≡ written a.front
 front_is s n a = go a.front a.whole a.long

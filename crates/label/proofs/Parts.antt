@@ -1,13 +1,13 @@
 -- Facts of components and of paths, for the proofs of the functions.
-use Rattle.std.proofs.Common.{◌≡◌, ℕ, zero, suc, ◌+◌, ◌-◌, ◌<◌, ◌≤◌, Bool, true, false, ◌⊎◌, List, [], ◌∷◌, ◌++◌, length, get_or, take, drop, set, codes, sym, refl, ap, ◌∙◌, subst, inl, inr, ⊎_elim, add-one, arith}
+use Rattle.std.proofs.Common.{◌≡◌, ℕ, suc, ◌+◌, ◌-◌, ◌<◌, ◌≤◌, ◌⊎◌, List, [], ◌∷◌, ◌++◌, length, get_or, take, drop, codes, sym, refl, ap, ◌∙◌, subst, inl, inr, ⊎_elim, arith}
 use native.Mathlib.Bridge.{le_prop}
-use Rattle.std.proofs.lemmas.List.{nil_from_length, append-nil, drop_more, take-append-drop, take_at, drop_at, get_or_at, get_or_append_left, length-append, take_all, drop-drop, take_rest, take_more, take_more_set, length_push}
+use Rattle.std.proofs.lemmas.List.{nil_from_length, append-nil, drop_more, take-append-drop, take_at, drop_at, get_or_at, get_or_append_left, length-append, take_all, drop-drop, take_rest}
 use Rattle.std.proofs.ByRecursion.{All-get_or}
 use Rattle.std.proofs.lemmas.Bool.{cases_order}
-use mathlib.Core.Logic.{∥∥₁_elim, ∥∥₁_map}
+use mathlib.Core.Logic.{∥∥₁_elim}
 use Rattle.std.proofs.lemmas.Slice.Eq.{text_from_reads}
-use Rattle.std.specs.List.{flat_map, AllByRecursion as All}
-use Rattle.label.specs.Paths.{PathByte, Component, IsRest, IsPath, Ancestor, ancestor, slashed, written}
+use Rattle.std.specs.List.{AllByRecursion}
+use Rattle.label.specs.Paths.{PathByte, Component, IsRest, IsPath, slashed, written}
 
 pub component_some : (c : List ℕ) → length c < 1 → Component c → ⊥
 component_some c l n = n.some (nil_from_length c (omega arith))
@@ -18,7 +18,7 @@ component_dot c l a n = n.dot (text_from_reads c (codes ".") l (a, tt))
 pub component_dots : (c : List ℕ) → length c ≡ 2 → get_or c 0 0 ≡ 46 → get_or c 1 0 ≡ 46 → Component c → ⊥
 component_dots c l a b n = n.dots (text_from_reads c (codes "..") l (a, (b, tt)))
 
-pub component_from : (c : List ℕ) → All PathByte c → (length c ≡ 0 → ⊥) → (length c ≡ 1 → get_or c 0 0 ≡ 46 → ⊥) → (length c ≡ 2 → get_or c 0 0 ≡ 46 → get_or c 1 0 ≡ 46 → ⊥) → Component c
+pub component_from : (c : List ℕ) → AllByRecursion PathByte c → (length c ≡ 0 → ⊥) → (length c ≡ 1 → get_or c 0 0 ≡ 46 → ⊥) → (length c ≡ 2 → get_or c 0 0 ≡ 46 → get_or c 1 0 ≡ 46 → ⊥) → Component c
 component_from c a p q r =
     record {
       bytes = a;
@@ -65,10 +65,10 @@ component_ends c t n a f =
 pub components_back : (s : List ℕ) (n : ℕ) → First s n → IsRest s → Component (take n s) × ((n ≡ length s) ⊎ IsRest (drop (n + 1) s))
 components_back s n f m = go m.first m.others m.components (ap tail m.whole)
   where
-    go : (c : List ℕ) (cs : List (List ℕ)) → All Component (c ∷ cs) → s ≡ c ++ slashed cs → Component (take n s) × ((n ≡ length s) ⊎ IsRest (drop (n + 1) s))
+    go : (c : List ℕ) (cs : List (List ℕ)) → AllByRecursion Component (c ∷ cs) → s ≡ c ++ slashed cs → Component (take n s) × ((n ≡ length s) ⊎ IsRest (drop (n + 1) s))
     go c [] a e =
         let s≡c : s ≡ c = e ∙ append-nil c in
-        let b : All PathByte s = subst (All PathByte) (sym s≡c) a.0.bytes in
+        let b : AllByRecursion PathByte s = subst (AllByRecursion PathByte) (sym s≡c) a.0.bytes in
         let end : n ≡ length s =
         ⊎_elim (λ x. x) (⊎_elim (λ l. absurd ((All-get_or PathByte s n 0 l b).slash (f.found l))) (λ l. omega arith)) (cases_order n (length s)) in
         (subst Component (sym (take_all n s (omega arith) ∙ s≡c)) a.0, inl end)
@@ -119,7 +119,7 @@ path_starts s p = go p.parts p.whole
 pub path_back : (s : List ℕ) → (length s ≡ 1 → ⊥) → IsPath s → IsRest (take (length s - 1) (drop 1 s))
 path_back s l p = subst IsRest (sym (take_rest s 1)) (go p.parts p.components p.whole)
   where
-    go : (cs : List (List ℕ)) → All Component cs → s ≡ written cs → IsRest (drop 1 s)
+    go : (cs : List (List ℕ)) → AllByRecursion Component cs → s ≡ written cs → IsRest (drop 1 s)
     go [] a e = absurd (l (ap length e))
     go (c ∷ cs) a e = record { first = c; others = cs; components = a; whole = ap (λ x. 47 ∷ drop 1 x) e }
 

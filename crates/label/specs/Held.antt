@@ -1,6 +1,6 @@
 -- The name or path that bytes are, as it is held: with zeros behind its text.
 use Rattle.std.specs.Prelude.{◌≡◌, ℕ, ◌-◌, ◌≤◌, Bool, true, false, List, ◌++◌, length, take, replicate, Some, None, Option, refl}
-use Rattle.std.proofs.Common.{sym, ap, subst, ◌∙◌, arith}
+use Rattle.std.proofs.Common.{sym, ap, subst, ◌∙◌}
 use mathlib.Core.HLevel.{is_prop→PathP}
 use Rattle.std.proofs.Math.Logic.{∥∥₁_prop}
 use Rattle.std.proofs.Math.Bridge.{le_prop}
@@ -10,7 +10,6 @@ use Rattle.label.specs.declared.name.Name.{Name}
 use Rattle.label.specs.declared.path.Path.{Path}
 use Rattle.label.specs.Names.{IsName}
 use Rattle.label.specs.Paths.{IsPath}
-use Rattle.label.specs.Texts.{name_text, text}
 use Rattle.label.specs.Tests.{is_name, is_path}
 use Rattle.label.specs.TestLaws.{name_test, path_test}
 

@@ -1,5 +1,5 @@
 -- Letters, and sets of letters as bits.
-use Rattle.std.specs.Prelude.{ℕ, Bool, true, false, cond, not, Some, None, Option, ◌==◌, bit_and, bit_or}
+use Rattle.std.specs.Prelude.{ℕ, Bool, false, cond, not, Some, None, Option, ◌==◌, bit_and, bit_or}
 use Rattle.label.specs.declared.rights.Rights.{Rights}
 
 -- the codes of the letters: read, write, append, execute, create and remove, descend

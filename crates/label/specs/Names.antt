@@ -1,6 +1,6 @@
 -- What a name is.
 use Rattle.std.specs.Prelude.{◌≡◌, ℕ, ◌≤◌, ◌⊎◌, List, length, slice_index}
-use Rattle.std.specs.List.{AllByRecursion as All}
+use Rattle.std.specs.List.{AllByRecursion}
 
 -- a to z
 pub record Lower (b : ℕ) : Type 0 where
@@ -16,4 +16,4 @@ pub record IsName (s : List ℕ) : Type 0 where
   pub some : 1 ≤ length s
   pub short : length s ≤ 24
   pub first : Lower (slice_index s 0)
-  pub bytes : All NameByte s
+  pub bytes : AllByRecursion NameByte s

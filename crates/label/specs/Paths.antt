@@ -1,6 +1,6 @@
 -- What a path is, and what its ancestors are.
-use Rattle.std.specs.Prelude.{◌≡◌, ℕ, ◌<◌, ◌≤◌, Bool, true, ◌&&◌, ◌||◌, List, [], ◌∷◌, ◌++◌, length, take, codes, Decides, ◌==◌, nat_lt, slice_index}
-use Rattle.std.specs.List.{flat_map, AllByRecursion as All}
+use Rattle.std.specs.Prelude.{◌≡◌, ℕ, ◌≤◌, Bool, true, ◌&&◌, ◌||◌, List, [], ◌∷◌, ◌++◌, length, take, codes, Decides, ◌==◌, nat_lt, slice_index}
+use Rattle.std.specs.List.{flat_map, AllByRecursion}
 
 -- a byte that a component may have: 0x21 to 0x7E, and none of / ( ) # \
 pub record PathByte (b : ℕ) : Type 0 where
@@ -14,7 +14,7 @@ pub record PathByte (b : ℕ) : Type 0 where
 
 -- one or more such bytes, and neither . nor ..
 pub record Component (c : List ℕ) : Type 0 where
-  pub bytes : All PathByte c
+  pub bytes : AllByRecursion PathByte c
   pub some : c ≡ [] → ⊥
   pub dot : c ≡ codes "." → ⊥
   pub dots : c ≡ codes ".." → ⊥
@@ -31,7 +31,7 @@ written (c ∷ cs) = slashed (c ∷ cs)
 -- a path: components, written out in at most 64 bytes
 pub record IsPath (s : List ℕ) : Type 0 where
   pub parts : List (List ℕ)
-  pub components : All Component parts
+  pub components : AllByRecursion Component parts
   pub whole : s ≡ written parts
   pub short : length s ≤ 64
 
@@ -39,7 +39,7 @@ pub record IsPath (s : List ℕ) : Type 0 where
 pub record IsRest (s : List ℕ) : Type 0 where
   pub first : List ℕ
   pub others : List (List ℕ)
-  pub components : All Component (first ∷ others)
+  pub components : AllByRecursion Component (first ∷ others)
   pub whole : 47 ∷ s ≡ written (first ∷ others)
 
 -- n is the length of an ancestor of s: of its first components, fewer than all, perhaps none
@@ -47,7 +47,7 @@ pub record Ancestor (s : List ℕ) (n : ℕ) : Type 0 where
   pub front : List (List ℕ)
   pub next : List ℕ
   pub rest : List (List ℕ)
-  pub components : All Component (front ++ next ∷ rest)
+  pub components : AllByRecursion Component (front ++ next ∷ rest)
   pub whole : s ≡ written (front ++ next ∷ rest)
   pub long : n ≡ length (written front)
 

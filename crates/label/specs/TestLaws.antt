@@ -1,13 +1,13 @@
 -- The tests say what names and paths are.
-use Rattle.std.specs.Prelude.{◌≡◌, ℕ, ◌≤◌, Bool, true, false, cond, not, ◌&&◌, ◌||◌, ◌⊎◌, List, [], ◌∷◌, ◌++◌, length, codes, Decides, ◌==◌, ◌≢◌, nat_eq, nat_le, slice_index, refl}
-use Rattle.std.proofs.Common.{sym, ap, subst, ◌∙◌, inl, inr, ⊎_elim, arith}
-use Rattle.std.specs.List.{flat_map, AllByRecursion as All}
-use Rattle.std.proofs.lemmas.List.{append-nil, append_assoc}
+use Rattle.std.specs.Prelude.{◌≡◌, ℕ, ◌≤◌, Bool, true, false, cond, not, ◌&&◌, ◌||◌, ◌⊎◌, List, [], ◌∷◌, ◌++◌, length, Decides, ◌==◌, ◌≢◌, nat_eq, nat_le, slice_index, refl}
+use Rattle.std.proofs.Common.{sym, ap, subst, ◌∙◌, inl, inr, ⊎_elim}
+use Rattle.std.specs.List.{AllByRecursion}
+use Rattle.std.proofs.lemmas.List.{append_assoc}
 use Rattle.std.proofs.ByRecursion.{All-append}
 use Rattle.std.proofs.lemmas.Bool.{and_parts, and_from, or_cases, or_left, or_right, or_parts, or_from, le-leb, leb-true, eq-eqb, ne_eqb, eqb-true, eqb-false, not-true, not_from_false, cases_Bool, cases_eq, cond-true, cond-false, both_ways}
 use Rattle.label.specs.Names.{Lower, NameByte, IsName}
 use Rattle.label.specs.Paths.{PathByte, Component, IsRest, IsPath, slashed, written}
-use Rattle.label.specs.Tests.{lower, name_byte, name_bytes, is_name, path_byte, Part, nothing, dot, dots, some, grown, whole, components, after_slash, slash_first, is_path}
+use Rattle.label.specs.Tests.{lower, name_byte, name_bytes, is_name, path_byte, Part, nothing, dot, dots, some, grown, whole, components, slash_first, is_path}
 
 lower_test : (b : ℕ) → Decides (lower b) (Lower b)
 lower_test b = (
@@ -28,7 +28,7 @@ name_byte_test b = (
       h,
 )
 
-name_bytes_test : (s : List ℕ) → Decides (name_bytes s) (All NameByte s)
+name_bytes_test : (s : List ℕ) → Decides (name_bytes s) (AllByRecursion NameByte s)
 name_bytes_test [] = (λ _. tt, λ _. refl)
 name_bytes_test (b ∷ bs) = (
   λ e. let p = and_parts (name_byte b) (name_bytes bs) e in ((name_byte_test b).0 p.0, (name_bytes_test bs).0 p.1),
@@ -115,7 +115,7 @@ come-whole (x ∷ y ∷ z ∷ s) h = ap whole (ap (λ p. come p s) (third x y z)
         three (inl e) (inr f) = ap (λ p. grown (grown p y) z) (cond-true (x == 46) dot some e) ∙ ap (λ p. grown p z) (cond-false (y == 46) dots some f)
         three (inr e) f = ap (λ p. grown (grown p y) z) (cond-false (x == 46) dot some e)
 
-whole_component : (c : List ℕ) → All PathByte c → whole (come nothing c) ≡ true → Component c
+whole_component : (c : List ℕ) → AllByRecursion PathByte c → whole (come nothing c) ≡ true → Component c
 whole_component c a w =
     record {
       bytes = a;
@@ -131,18 +131,18 @@ components_byte part b bs h =
     ap (λ t. cond t (whole part) (path_byte b) && components (cond t nothing (grown part b)) bs) n
     ∙ ap (λ t. t && components (grown part b) bs) ((path_byte_test b).1 h)
 
-components-run : (part : Part) (c t : List ℕ) → All PathByte c → components part (c ++ t) ≡ components (come part c) t
+components-run : (part : Part) (c t : List ℕ) → AllByRecursion PathByte c → components part (c ++ t) ≡ components (come part c) t
 components-run part [] t a = refl
 components-run part (b ∷ bs) t a = components_byte part b (bs ++ t) a.0 ∙ components-run (grown part b) bs t a.1
 
-components_to : (c : List ℕ) (cs : List (List ℕ)) → All Component (c ∷ cs) → components nothing (c ++ slashed cs) ≡ true
+components_to : (c : List ℕ) (cs : List (List ℕ)) → AllByRecursion Component (c ∷ cs) → components nothing (c ++ slashed cs) ≡ true
 components_to c [] a = components-run nothing c [] a.0.bytes ∙ come-whole c a.0
 components_to c (d ∷ ds) a =
     components-run nothing c (slashed (d ∷ ds)) a.0.bytes
     ∙ ap (λ t. t && components nothing (d ++ slashed ds)) (come-whole c a.0)
     ∙ components_to d ds a.1
 
-components_from : (c s : List ℕ) → All PathByte c → components (come nothing c) s ≡ true → IsRest (c ++ s)
+components_from : (c s : List ℕ) → AllByRecursion PathByte c → components (come nothing c) s ≡ true → IsRest (c ++ s)
 components_from c [] a e = record { first = c; others = []; components = (whole_component c a e, tt); whole = refl }
 components_from c (b ∷ bs) a e = by (components_from [] bs tt) (components_from (c ++ b ∷ []) bs) (cases_Bool (b == 47))
   where
@@ -151,7 +151,7 @@ components_from c (b ∷ bs) a e = by (components_from [] bs tt) (components_fro
 
     by :
         (components nothing bs ≡ true → IsRest bs) →
-        (All PathByte (c ++ b ∷ []) → components (come nothing (c ++ b ∷ [])) bs ≡ true → IsRest ((c ++ b ∷ []) ++ bs)) →
+        (AllByRecursion PathByte (c ++ b ∷ []) → components (come nothing (c ++ b ∷ [])) bs ≡ true → IsRest ((c ++ b ∷ []) ++ bs)) →
         ((b == 47) ≡ true) ⊎ ((b == 47) ≡ false) → IsRest (c ++ b ∷ bs)
     by anew on (inl t) =
         let p = and_parts (whole part) (components nothing bs) (sym (ap (λ x. cond x (whole part) (path_byte b) && components (cond x nothing (grown part b)) bs) t) ∙ e) in
@@ -177,7 +177,7 @@ path_from (b ∷ x ∷ xs) l e =
     let m : IsRest (x ∷ xs) = components_from [] (x ∷ xs) tt p.1 in
     record { parts = m.first ∷ m.others; components = m.components; whole = ap (λ y. y ∷ x ∷ xs) (eqb-true b 47 p.0) ∙ m.whole; short = l }
 
-path_to : (cs : List (List ℕ)) → All Component cs → slash_first (written cs) ≡ true
+path_to : (cs : List (List ℕ)) → AllByRecursion Component cs → slash_first (written cs) ≡ true
 path_to [] a = refl
 path_to ([] ∷ cs) a = absurd (a.0.some refl)
 path_to ((x ∷ xs) ∷ cs) a = components_to (x ∷ xs) cs a

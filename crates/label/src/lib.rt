@@ -1,4 +1,6 @@
 //! Labels of subjects and objects: numbers, letters and rights, names, paths.
+#![tactic(auto)]
+
 pub mod name;
 pub mod names;
 pub mod numbers;

@@ -1,13 +1,15 @@
 //! Names of types and domains.
-ghost use Rattle.std.specs.Prelude.{◌≡◌, Decides};
-ghost use Rattle.std.specs.List.{AllByRecursion as All};
+ghost use Rattle.std.specs.Prelude.{nat_eq, ◌≡◌, Decides};
+ghost use Rattle.std.specs.List.{AllByRecursion};
 ghost use Rattle.label.specs.Names.{Lower, NameByte, IsName};
 ghost use Rattle.std.specs.Option.{ok_or};
 ghost use Rattle.label.specs.Held.{named};
 ghost use Rattle.label.specs.Texts.{name_text, ReadsName};
 ghost use Rattle.label.specs.declared.refusal.Refusal.TheVariants.{Misshapen};
+ghost use Rattle.std.specs.Cmp.Lexicographic.{pointwise};
 ghost use Rattle.std.specs.Cmp.Rules.{comparing};
-ghost use Rattle.std.proofs.Common.{rules, arith};
+ghost use Rattle.std.specs.Ordering.{on};
+ghost use Rattle.std.proofs.Common.{rules};
 
 use crate::name::Name;
 use crate::refusal::Refusal;
@@ -26,7 +28,7 @@ fn is_name_byte(b: u8) -> bool
 }
 
 fn are_name_bytes(s: &[u8]) -> bool
-    ensures { Decides result (All NameByte s.now) }
+    ensures { Decides result (AllByRecursion NameByte s.now) }
 {
     for b in s {
         if !is_name_byte(*b) {
@@ -71,9 +73,9 @@ impl Name {
 
 // Names are equal where their texts are.
 impl PartialEq for Name {
-    ghost equals = { λ m n r. Decides r (name_text m ≡ name_text n) };
+    ghost eq = { on name_text (pointwise nat_eq) };
 
-    ghost laws = { first_of (Prim.search (comparing, rules), Prim.grind (arith, Self.row.coded.inj)) };
+    ghost laws = { Prim.search (comparing, rules) };
 
     fn eq(&self, other: &Name) -> bool {
         self.as_bytes() == other.as_bytes()

@@ -1,13 +1,15 @@
 //! Paths: their form, and the lengths of their ancestors.
-ghost use Rattle.std.specs.Prelude.{◌≡◌, ℕ, ◌+◌, ◌<◌, ◌≤◌, length, Some, codes, Decides, ◌≢◌, slice_index};
-ghost use Rattle.std.specs.List.{AllByRecursion as All};
+ghost use Rattle.std.specs.Prelude.{nat_eq, ◌≡◌, ℕ, ◌+◌, ◌<◌, ◌≤◌, length, Some, codes, Decides, ◌≢◌, slice_index};
+ghost use Rattle.std.specs.List.{AllByRecursion};
 ghost use Rattle.label.specs.Paths.{PathByte, Component, IsRest, IsPath, Ancestors, ancestor};
 ghost use Rattle.std.specs.Option.{ok_or};
 ghost use Rattle.label.specs.Held.{pathed};
 ghost use Rattle.label.specs.Texts.{text, ReadsPath};
 ghost use Rattle.label.specs.declared.refusal.Refusal.TheVariants.{Misshapen};
+ghost use Rattle.std.specs.Cmp.Lexicographic.{pointwise};
 ghost use Rattle.std.specs.Cmp.Rules.{comparing};
-ghost use Rattle.std.proofs.Common.{rules, arith};
+ghost use Rattle.std.specs.Ordering.{on};
+ghost use Rattle.std.proofs.Common.{rules};
 
 use crate::path::Path;
 use crate::refusal::Refusal;
@@ -24,7 +26,7 @@ fn is_path_byte(b: u8) -> bool
 }
 
 fn are_path_bytes(c: &[u8]) -> bool
-    ensures { Decides result (All PathByte c.now) }
+    ensures { Decides result (AllByRecursion PathByte c.now) }
 {
     for b in c {
         if !is_path_byte(*b) {
@@ -126,9 +128,9 @@ impl Path {
 
 // Paths are equal where their texts are.
 impl PartialEq for Path {
-    ghost equals = { λ p q r. Decides r (text p ≡ text q) };
+    ghost eq = { on text (pointwise nat_eq) };
 
-    ghost laws = { first_of (Prim.search (comparing, rules), Prim.grind (arith, Self.row.coded.inj)) };
+    ghost laws = { Prim.search (comparing, rules) };
 
     fn eq(&self, other: &Path) -> bool {
         self.as_bytes() == other.as_bytes()

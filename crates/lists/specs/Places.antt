@@ -1,5 +1,5 @@
 -- Where a text stands in a list of texts.
-use Rattle.std.specs.Prelude.{ℕ, suc, Bool, true, false, cond, not, ◌&&◌, List, [], ◌∷◌, is_some, Some, None, Option}
+use Rattle.std.specs.Prelude.{ℕ, suc, Bool, true, cond, not, ◌&&◌, List, [], ◌∷◌, is_some, Some, None, Option}
 use Rattle.std.specs.Str.{bytes_eq}
 
 -- the number of a text in a list whose first has the number n; the first number, if it stands there more than once

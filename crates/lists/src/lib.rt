@@ -1,4 +1,6 @@
 //! Lists of labels in which no text stands twice.
+#![tactic(auto)]
+
 ghost use Rattle.std.specs.Prelude.{◌≡◌, ◌<◌, ◌≤◌, [], ◌∷◌, ◌++◌, map, length, is_some, IfSome, IfOk};
 ghost use Rattle.label.specs.Refusals.{refuses_more, Takes};
 ghost use Rattle.lists.specs.Places.{place_of};

@@ -12,7 +12,7 @@ use Rattle.machine.specs.Series.{Entry, turn}
 use Rattle.machine.specs.Possible.{PossiblePlace}
 use Rattle.machine.specs.Flow.{Live, Node, obj, dom, Change, by-writing, by-appending, by-making, act_of, Link, learns, passes, alters, Walk, here, on, Objects, Chain}
 use Rattle.machine.specs.Separation.{AlikeOutside, Separated}
-use Rattle.machine.specs.Recipe.{Recipe, always, if-read-empty, reads_empty, has_read_empty, rule_of}
+use Rattle.machine.specs.Recipe.{Recipe, always, if_read_empty, reads_empty, has_read_empty, rule_of}
 use Rattle.machine.specs.Leak.{drive, quiet, telling, Carried, seat_of, Reached, hand_over, forward, carried, finished, first_beginning, second_beginning, leak_lines, leak_series, Leaks, PlainCall, PlainRecipe}
 use Rattle.machine.proofs.Checks.{zero_is_one, eqb_self, admit}
 use Rattle.machine.proofs.Steps.{plain_lines_possible, plain_pass, plain_read, Present, present_moves, run_is_not_empty, other_answer_changes_nothing, empty_answer_is_heard, Runs, run_join, Acted, Turned, turned, looked, may_pass, may_read, Driven, driven}
@@ -264,7 +264,7 @@ module _ (P : Policy) where
         there i h = subst Present (sym (y.same i)) (g.there₂ i h)
 
         recipe : Recipe
-        recipe = if-read-empty (quiet how o) (telling how o)
+        recipe = if_read_empty (quiet how o) (telling how o)
 
         u : Relayed x.end (turn k recipe ∷ turn j (always (read o 64)) ∷ turn k (always (quiet how o)) ∷ []) j E o x.list (quiet how o) (quiet how o)
         u =
@@ -409,7 +409,7 @@ module _ (P : Policy) where
         g = h.known.knows
 
         recipe : Recipe
-        recipe = if-read-empty (quiet how o) (telling how o)
+        recipe = if_read_empty (quiet how o) (telling how o)
 
         ix : Ink D o (quiet how o)
         ix = quiet_ink D o how h.below h.may

@@ -4,7 +4,7 @@ use mathlib.Core.List.{List-discrete}
 use native.Mathlib.Decide.{ℕ_discrete}
 use Rattle.std.proofs.lemmas.Bool.{ltb-true, lt-ltb, le-ltb, le-leb, lt-leb, eq-eqb, ne_eqb}
 use Rattle.machine.specs.Policy.{Policy, granted}
-use Rattle.machine.specs.Answers.{Bytes, Refusal, no_object_lem, too_long, no_domain_lem, short_buffer, denied, no_passage}
+use Rattle.machine.specs.Answers.{Bytes, Refusal, no_object, too_long, no_domain, short_buffer, denied, no_passage}
 use Rattle.machine.specs.Calls.{Call, object, act, handed, room, wish}
 use Rattle.machine.specs.State.{Seat, put}
 use Rattle.machine.specs.Checks.{unless, denial, first_of, wish_is_domain, wish_may_pass, refusal}
@@ -104,7 +104,7 @@ deny_first : (v : Result (Unit {0}) (ℕ × ℕ)) (pair : ℕ × ℕ) (checks : 
 deny_first v pair checks e = ap (λ (x : Result (Unit {0}) (ℕ × ℕ)). first_of (denial x ∷ checks)) e
 
 module _ (P : Policy) (d : ℕ) (c : Call) where
-  pub refused_for_object : P.objects ≤ object c → refusal P d c ≡ Some no_object_lem
+  pub refused_for_object : P.objects ≤ object c → refusal P d c ≡ Some no_object
   unfolding refusal
   refused_for_object a = fail_first (ltb (object c) P.objects) _ _ (le-ltb _ _ a)
 
@@ -116,7 +116,7 @@ module _ (P : Policy) (d : ℕ) (c : Call) where
         fail_first (leb (length (handed c)) 64) _ _ (lt-leb _ _ a)
 
     module _ (short : length (handed c) ≤ 64) where
-      pub refused_for_wish : wish_is_domain P (wish c) ≡ false → refusal P d c ≡ Some no_domain_lem
+      pub refused_for_wish : wish_is_domain P (wish c) ≡ false → refusal P d c ≡ Some no_domain
       unfolding refusal
       refused_for_wish a =
           pass-first (ltb (object c) P.objects) _ _ (lt-ltb _ _ below) ∙

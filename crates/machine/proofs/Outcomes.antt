@@ -1,13 +1,13 @@
 -- What a call may change: the three ways that a call can go, and the laws that follow.
 use Rattle.std.proofs.Common.{◌≡◌, ℕ, ◌<◌, ◌≤◌, Bool, true, false, cond, eqb, ltb, List, [], ◌∷◌, Some, None, Option, sym, refl, ap, ◌∙◌, subst, arith}
-use Rattle.std.specs.List.{AllByRecursion as All}
+use Rattle.std.specs.List.{AllByRecursion}
 use Rattle.std.proofs.lemmas.Bool.{lt-ltb, le-ltb, ne_eqb, ltb-true, ltb-false}
 use Rattle.machine.specs.Policy.{Policy}
 use Rattle.machine.specs.Answers.{Bytes, Answer, taken, refused, Refusal, no_seat, seat_idle, few_places}
 use Rattle.machine.specs.Calls.{Call, read, write, append, create, remove, run, object}
 use Rattle.machine.specs.State.{Contents, Seat, idle, seated, State, note}
 use Rattle.machine.specs.Checks.{refusal}
-use Rattle.machine.specs.Effects.{change, changed, target, reply_run, reply, if-present, moved}
+use Rattle.machine.specs.Effects.{change, changed, target, reply_run, reply, if_present, moved}
 use Rattle.machine.specs.Machine.{outcome, call_at, call, fresh, start_seat}
 use Rattle.machine.specs.Series.{Rule, Entry, Series, step}
 use Rattle.machine.specs.Places.{step_on, after_on, told_on, Served, Unserved}
@@ -15,13 +15,13 @@ use Rattle.machine.specs.Laws.{noted, OnlyNoted, TouchesOnly, StartsOne}
 use Rattle.machine.proofs.Checks.{zero_is_one, cond_same, put_same, put_other}
 
 -- a call is of no seat, of an idle one, or of one in a domain
-pub call-cases : (P : Policy) (st : State) (s : ℕ) (c : Call) (Q : Answer × State → Type 0) →
+pub call_cases : (P : Policy) (st : State) (s : ℕ) (c : Call) (Q : Answer × State → Type 0) →
     (16 ≤ s → Q (refused no_seat, st)) →
     (s < 16 → st.seats s ≡ idle → Q (refused seat_idle, st)) →
     ((d : ℕ) (l : List Answer) → s < 16 → st.seats s ≡ seated d l → Q (outcome P st s d l c (refusal P d c))) →
     Q (call P st s c)
 unfolding call call_at
-call-cases P st s c Q none still acts = by_seat (ltb s 16) refl
+call_cases P st s c Q none still acts = by_seat (ltb s 16) refl
   where
     by_what : s < 16 → (x : Seat) → st.seats s ≡ x → Q (call_at P st s c x)
     by_what lt idle q = still lt q
@@ -41,9 +41,9 @@ outcome_touches P st s d l c None =
       other_seats_stay = λ k h. put_other st.seats s _ k h;
     }
 
-pub call-touches : (P : Policy) (st : State) (s : ℕ) (c : Call) → TouchesOnly (object c) s st (call P st s c).1
-call-touches P st s c =
-    call-cases P st s c (λ x. TouchesOnly (object c) s st x.1) (λ h. same) (λ h q. same)
+pub call_touches : (P : Policy) (st : State) (s : ℕ) (c : Call) → TouchesOnly (object c) s st (call P st s c).1
+call_touches P st s c =
+    call_cases P st s c (λ x. TouchesOnly (object c) s st x.1) (λ h. same) (λ h q. same)
     (λ d l h q. outcome_touches P st s d l c (refusal P d c))
   where
     same : TouchesOnly (object c) s st st
@@ -78,7 +78,7 @@ absent_keeps P m d v (create i) r e o = absurd (taken_is_refused e)
 absent_keeps P m d v (remove i) r e o = absurd (taken_is_refused e)
 absent_keeps P m d v (run i w n) r e o = cond_same (eqb o i) (m o)
 
-absent_stays : (d t : ℕ) (v : Option Bytes) (r : Refusal) → reply_run t v ≡ refused r → if-present d t v ≡ d
+absent_stays : (d t : ℕ) (v : Option Bytes) (r : Refusal) → reply_run t v ≡ refused r → if_present d t v ≡ d
 absent_stays d t None r e = refl
 absent_stays d t (Some b) r e = absurd (zero_is_one (cc))
 
@@ -109,7 +109,7 @@ outcome_refused P st s d l c None r q e =
 
 pub refusal_notes : (P : Policy) (st : State) (s : ℕ) (c : Call) (r : Refusal) → (call P st s c).0 ≡ refused r → OnlyNoted st s (refused r) (call P st s c).1
 refusal_notes P st s c r =
-    call-cases P st s c (λ x. x.0 ≡ refused r → OnlyNoted st s (refused r) x.1)
+    call_cases P st s c (λ x. x.0 ≡ refused r → OnlyNoted st s (refused r) x.1)
     (λ h e. record { contents_stay = λ o. refl; others_stay = λ k n. refl; seat_notes = λ lt. absurd (omega arith) })
     (λ h q e. record { contents_stay = λ o. refl; others_stay = λ k n. refl; seat_notes = λ lt. q ∙ ap (λ (x : Seat). noted x (refused r)) (sym q) })
     (λ d l h q e. outcome_refused P st s d l c (refusal P d c) r q e)
@@ -143,6 +143,6 @@ few_serve_nobody P places st (e ∷ es) lt =
       nothing_changes = ap (λ (x : Answer × State). after_on P places x.1 es) q ∙ r.nothing_changes;
       all_refused = (
         ap (λ (x : Answer × State). x.0) q,
-        subst (λ (z : State). All (λ a. a ≡ refused few_places) (told_on P places z es)) (sym (ap (λ (x : Answer × State). x.1) q)) r.all_refused,
+        subst (λ (z : State). AllByRecursion (λ a. a ≡ refused few_places) (told_on P places z es)) (sym (ap (λ (x : Answer × State). x.1) q)) r.all_refused,
       );
     }

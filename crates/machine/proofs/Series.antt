@@ -14,7 +14,7 @@ use Rattle.machine.specs.Possible.{Byte, PossiblePlace, Possible, PossibleCall, 
 use Rattle.machine.specs.Flow.{Live}
 use Rattle.machine.proofs.Checks.{some_is_none, admitted}
 use Rattle.machine.proofs.Sound.{LiveSeat, step_live}
-use Rattle.machine.proofs.Outcomes.{call-cases}
+use Rattle.machine.proofs.Outcomes.{call_cases}
 
 series_live : (P : Policy) (es : Series) (st : State) → ((k : ℕ) → LiveSeat P (st.seats k)) → (k : ℕ) → LiveSeat P ((after P st es).seats k)
 series_live P [] st all = all
@@ -52,7 +52,7 @@ step_possible P st (start s) p h =
     elim (ltb s 16) as (λ b. Possible P (cond {A = Answer × State} b (taken, fresh P st s) (refused no_seat, st)).1.contents) [ true ↦ h | false ↦ h ]
 step_possible P st (turn s rule) p h =
     let c : Call = rule (answers (st.seats s)) in
-    call-cases P st s c (λ x. Possible P x.1.contents) (λ _. h) (λ _ _. h)
+    call_cases P st s c (λ x. Possible P x.1.contents) (λ _. h) (λ _ _. h)
     (λ d l _ _. outcome_possible P st s d l c (refusal P d c) refl (p (answers (st.seats s))) h)
 
 series_possible : (P : Policy) (es : Series) (st : State) → PossibleSeries es → Possible P st.contents → Possible P (after P st es).contents

@@ -8,10 +8,10 @@ use Rattle.machine.specs.State.{Contents, Seat, seated, State, domain, put}
 use Rattle.machine.specs.Checks.{refusal}
 use Rattle.machine.specs.Effects.{change, changed, reply, moved}
 use Rattle.machine.specs.Machine.{outcome, call, fresh, start_seat}
-use Rattle.machine.specs.Places.{call-on}
+use Rattle.machine.specs.Places.{call_on}
 use Rattle.machine.specs.Shown.{Shows, ComesTo, CallsAs, StartsAs}
 use Rattle.machine.proofs.Checks.{some_is_none}
-use Rattle.machine.proofs.Outcomes.{call-cases}
+use Rattle.machine.proofs.Outcomes.{call_cases}
 
 -- the seat s is in the domain e, and every other seat as before
 pub record MovesOne (ds ds' : ℕ → Option ℕ) (s e : ℕ) : Type 0 where
@@ -41,28 +41,28 @@ module _ (P : Policy) (places : ℕ) (m : Contents) (ds : ℕ → Option ℕ) (s
       (sym (lt-ltb places P.objects few)) (record { answer_is = refl; shows = h })
 
   module _ (enough : P.objects ≤ places) where
-    placed : (c : Call) (a : Answer) (m' : Contents) (ds' : ℕ → Option ℕ) (st : State) → ComesTo (call P st s c) a m' ds' → ComesTo (call-on P places st s c) a m' ds'
+    placed : (c : Call) (a : Answer) (m' : Contents) (ds' : ℕ → Option ℕ) (st : State) → ComesTo (call P st s c) a m' ds' → ComesTo (call_on P places st s c) a m' ds'
     placed c a m' ds' st r =
         subst (λ (b : Bool). ComesTo (cond b (refused few_places, st) (call P st s c)) a m' ds') (sym (le-ltb places P.objects enough)) r
 
     pub calls_no_seat : (c : Call) → 16 ≤ s → CallsAs P places m ds s c (refused no_seat) m ds
     calls_no_seat c high st h =
         placed c (refused no_seat) m ds st
-        (call-cases P st s c (λ x. ComesTo x (refused no_seat) m ds) (λ _. record { answer_is = refl; shows = h }) (λ lt q. absurd (omega arith))
+        (call_cases P st s c (λ x. ComesTo x (refused no_seat) m ds) (λ _. record { answer_is = refl; shows = h }) (λ lt q. absurd (omega arith))
         (λ d l lt q. absurd (omega arith)))
 
     module _ (low : s < 16) where
       pub calls_idle : (c : Call) → ds s ≡ None → CallsAs P places m ds s c (refused seat_idle) m ds
       calls_idle c none st h =
           placed c (refused seat_idle) m ds st
-          (call-cases P st s c (λ x. ComesTo x (refused seat_idle) m ds) (λ high. absurd (omega arith)) (λ lt q. record { answer_is = refl; shows = h })
+          (call_cases P st s c (λ x. ComesTo x (refused seat_idle) m ds) (λ high. absurd (omega arith)) (λ lt q. record { answer_is = refl; shows = h })
           (λ d l lt q. absurd (some_is_none (sym (ap domain q) ∙ h.domains_are s ∙ none))))
 
       -- the seat is in d: what holds of every list holds of the call
       seated_call : (c : Call) (d : ℕ) (a : Answer) (m' : Contents) (ds' : ℕ → Option ℕ) (st : State) → Shows st m ds → ds s ≡ Some d →
           ((l : List Answer) → ComesTo (outcome P st s d l c (refusal P d c)) a m' ds') → ComesTo (call P st s c) a m' ds'
       seated_call c d a m' ds' st h at f =
-          call-cases P st s c (λ x. ComesTo x a m' ds') (λ high. absurd (omega arith))
+          call_cases P st s c (λ x. ComesTo x a m' ds') (λ high. absurd (omega arith))
           (λ lt q. absurd (some_is_none (sym at ∙ sym (h.domains_are s) ∙ ap domain q)))
           (λ e l lt q.
           let p : Some e ≡ Some d = sym (ap domain q) ∙ h.domains_are s ∙ at in
@@ -83,7 +83,7 @@ module _ (P : Policy) (places : ℕ) (m : Contents) (ds : ℕ → Option ℕ) (s
       pub calls_admitted : (c : Call) (d : ℕ) (m' : Contents) (ds' : ℕ → Option ℕ) → ds s ≡ Some d → refusal P d c ≡ None →
           ((o : ℕ) → changed m c o ≡ m' o) → MovesOne ds ds' s (moved P d (m (object c)) c) →
           CallsAs P places m ds s c (reply P d (m (object c)) c) m' ds'
-      calls_admitted c d m' ds' at e now-is then st h =
+      calls_admitted c d m' ds' at e now_is then st h =
           placed c (reply P d (m (object c)) c) m' ds' st
           (seated_call c d (reply P d (m (object c)) c) m' ds' st h at
           (λ l.
@@ -92,7 +92,7 @@ module _ (P : Policy) (places : ℕ) (m : Contents) (ds : ℕ → Option ℕ) (s
             answer_is = ap (λ (v : Option Bytes). reply P d v c) (h.contents_are (object c));
             shows =
                 record {
-                  contents_are = λ o. ap (λ (v : Option Bytes). cond (eqb o (object c)) (change c v) v) (h.contents_are o) ∙ now-is o;
+                  contents_are = λ o. ap (λ (v : Option Bytes). cond (eqb o (object c)) (change c v) v) (h.contents_are o) ∙ now_is o;
                   domains_are =
                       put_shows st.seats ds ds' s _ _ h.domains_are
                       (subst (λ (v : Option Bytes). MovesOne ds ds' s (moved P d v c)) (sym (h.contents_are (object c))) then);

@@ -23,17 +23,17 @@ outcome-answers : (P : Policy) (st : State) (s d : ℕ) (l : List Answer) (c : C
 outcome-answers P st s d l c (Some r) = refl
 outcome-answers P st s d l c None = refl
 
-call-at-answers : (P : Policy) (st : State) (s : ℕ) (c : Call) (x : Seat) → (call_at P st s c x).0 ≡ by_domain P (domain x) (st.contents (object c)) c
+call_at-answers : (P : Policy) (st : State) (s : ℕ) (c : Call) (x : Seat) → (call_at P st s c x).0 ≡ by_domain P (domain x) (st.contents (object c)) c
 unfolding call_at
-call-at-answers P st s c idle = refl
-call-at-answers P st s c (seated d l) = outcome-answers P st s d l c (refusal P d c)
+call_at-answers P st s c idle = refl
+call_at-answers P st s c (seated d l) = outcome-answers P st s d l c (refusal P d c)
 
 pub call-answers : (P : Policy) (st : State) (s : ℕ) (c : Call) →
     (call P st s c).0 ≡ cond (ltb s 16) (by_domain P (domain (st.seats s)) (st.contents (object c)) c) (refused no_seat)
 unfolding call
 call-answers P st s c =
     elim (ltb s 16) as (λ b. (cond b (call_at P st s c (st.seats s)) (refused no_seat, st)).0 ≡ cond b (by_domain P (domain (st.seats s)) (st.contents (object c)) c) (refused no_seat))
-    [ true ↦ call-at-answers P st s c (st.seats s) | false ↦ refl ]
+    [ true ↦ call_at-answers P st s c (st.seats s) | false ↦ refl ]
 
 pub answer_depends : (P : Policy) (st st' : State) (s : ℕ) (c : Call) → domain (st.seats s) ≡ domain (st'.seats s) →
     st.contents (object c) ≡ st'.contents (object c) → (call P st s c).0 ≡ (call P st' s c).0

@@ -7,7 +7,7 @@ use Rattle.machine.specs.Answers.{Bytes, Answer, taken, refused, Refusal, no_sea
 use Rattle.machine.specs.Calls.{Call, read, write, append, create, remove, run, object}
 use Rattle.machine.specs.State.{Contents, Seat, idle, seated, State, answers, note, put, loaded}
 use Rattle.machine.specs.Checks.{refusal}
-use Rattle.machine.specs.Effects.{change, changed, or_stay, target, reply_read, reply_run, reply, if-present, moved}
+use Rattle.machine.specs.Effects.{change, changed, or_stay, target, reply_read, reply_run, reply, if_present, moved}
 use Rattle.machine.specs.Machine.{outcome, call_at, call, fresh, start_seat}
 use Rattle.machine.specs.Series.{Rule, Entry, start, turn, Series, step, after}
 use Rattle.machine.specs.Flow.{Live, live_first, live_pass, Node, obj, dom, Change, by-writing, by-appending, by-making, act_of, Link, learns, passes, alters, Walk, here, on, Objects, NoChain}
@@ -27,7 +27,7 @@ module _ (P : Policy) where
   auto_moves d o None q = inl refl
   auto_moves d o (Some e) q = inr (o, P.auto-pass d o e q)
 
-  present_moves : (d e : ℕ) (v : Option Bytes) → Moves d e → Moves d (if-present d e v)
+  present_moves : (d e : ℕ) (v : Option Bytes) → Moves d e → Moves d (if_present d e v)
   present_moves d e None h = inl refl
   present_moves d e (Some b) h = h
 
@@ -170,7 +170,7 @@ module _ (P : Policy) where
     same_moved m n d (append o bytes) al L h p = refl
     same_moved m n d (create o) al L h p = refl
     same_moved m n d (remove o) al L h p = refl
-    same_moved m n d (run o w k) al L h p = ap (if-present d (target P d o w)) (seen m n d o al L h p.below (P.run_reads d o p.grant))
+    same_moved m n d (run o w k) al L h p = ap (if_present d (target P d o w)) (seen m n d o al L h p.below (P.run_reads d o p.grant))
 
     -- a turn of a cold seat, for both runs
     outcome_agrees : (s t : State) (k d : ℕ) (l : List Answer) (c : Call) (a : Option Refusal) → Agree s.contents t.contents →
@@ -304,10 +304,10 @@ module _ (P : Policy) where
         }
 
 pub no_chain_separates : (P : Policy) (From To : Objects) → NoChain P From To → SeparatedFreely P From To
-no_chain_separates P From To none-such m n q es o lt e =
+no_chain_separates P From To none_such m n q es o lt e =
     (series_keeps P From es (loaded m) (loaded n) (loaded_twins P From m n q)).agree o lt
     (λ r.
-    none-such r.links
+    none_such r.links
     (record {
       from = r.from;
       to = o;

@@ -1,19 +1,19 @@
 -- One run of written-down lines: an admitted call of a seat, and a seat that is brought into a live domain.
 use Rattle.std.proofs.Common.{◌≡◌, ℕ, ◌<◌, Bool, true, false, cond, ◌≢◌, List, [], ◌∷◌, ◌++◌, Some, None, Option, sym, refl, ap, ◌∙◌, subst, arith}
 use native.Mathlib.Decide.{ℕ_discrete}
-use Rattle.std.specs.List.{AllByRecursion as All}
+use Rattle.std.specs.List.{AllByRecursion}
 use Rattle.std.proofs.lemmas.Bool.{lt-ltb, ne_eqb}
 use Rattle.machine.specs.Policy.{Policy, reading, granted}
 use Rattle.machine.specs.Answers.{Bytes, Answer, taken, refused, Refusal, no_seat}
 use Rattle.machine.specs.Calls.{Call, read, write, append, create, remove, run, object}
 use Rattle.machine.specs.State.{Seat, seated, State, answers, note}
 use Rattle.machine.specs.Checks.{refusal}
-use Rattle.machine.specs.Effects.{change, target, reply_read, reply_run, reply, if-present, moved}
+use Rattle.machine.specs.Effects.{change, target, reply_read, reply_run, reply, if_present, moved}
 use Rattle.machine.specs.Machine.{outcome, call_at, call, fresh, start_seat}
 use Rattle.machine.specs.Series.{Rule, Entry, start, turn, step, after, told}
 use Rattle.machine.specs.Possible.{PossibleCall, PossibleSeries}
 use Rattle.machine.specs.Flow.{Live, live_first, live_pass}
-use Rattle.machine.specs.Recipe.{Recipe, always, if-read-empty, reads_empty, has_read_empty, rule_of, entry_of, series_of}
+use Rattle.machine.specs.Recipe.{Recipe, always, if_read_empty, reads_empty, has_read_empty, rule_of, entry_of, series_of}
 use Rattle.machine.specs.Leak.{drive, PlainCall, PlainRecipe, PlainLine, Permitted}
 use Rattle.machine.proofs.Checks.{eqb_self, put_same, put_other, admit}
 
@@ -21,7 +21,7 @@ abbrev pub Present : Option Bytes → Type 0
 Present None = ⊥
 Present (Some b) = Unit {0}
 
-pub present_moves : (d e : ℕ) (v : Option Bytes) → Present v → if-present d e v ≡ e
+pub present_moves : (d e : ℕ) (v : Option Bytes) → Present v → if_present d e v ≡ e
 present_moves d e None p = absurd p
 present_moves d e (Some b) p = refl
 
@@ -47,15 +47,15 @@ module _ (P : Policy) where
   -- the lines lead from s to t, are plain, and are permitted
   pub record Runs (s : State) (lines : List (Entry Recipe)) (t : State) : Type 0 where
     pub ends : after P s (series_of lines) ≡ t
-    pub fair : All Permitted (told P s (series_of lines))
-    pub plain : All (PlainLine P) lines
+    pub fair : AllByRecursion Permitted (told P s (series_of lines))
+    pub plain : AllByRecursion (PlainLine P) lines
 
   pub plain_recipe_possible : (recipe : Recipe) → PlainRecipe P recipe → (l : List Answer) → PossibleCall (rule_of recipe l)
   plain_recipe_possible (always c) p l = p.hands_bytes
-  plain_recipe_possible (if-read-empty c e) p l =
+  plain_recipe_possible (if_read_empty c e) p l =
       elim (has_read_empty l) as (λ b. PossibleCall (cond b c e)) [ true ↦ p.0.hands_bytes | false ↦ p.1.hands_bytes ]
 
-  pub plain_lines_possible : (lines : List (Entry Recipe)) → All (PlainLine P) lines → PossibleSeries (series_of lines)
+  pub plain_lines_possible : (lines : List (Entry Recipe)) → AllByRecursion (PlainLine P) lines → PossibleSeries (series_of lines)
   plain_lines_possible [] h = tt
   plain_lines_possible (start s ∷ lines) h = (tt, plain_lines_possible lines h.1)
   plain_lines_possible (turn s recipe ∷ lines) h = (plain_recipe_possible recipe h.0.1, plain_lines_possible lines h.1)

@@ -1,5 +1,5 @@
 -- The trail of a walk: as many nodes as links and one more, from the first to the last, each linked to the next.
-use Rattle.std.proofs.Common.{◌≡◌, ℕ, zero, suc, ◌+◌, List, [], ◌∷◌, ◌++◌, length, get_or, sym, refl, ap, ◌∙◌, subst, arith}
+use Rattle.std.proofs.Common.{◌≡◌, ℕ, zero, suc, List, [], ◌∷◌, ◌++◌, length, get_or, sym, refl, ap, ◌∙◌, subst, arith}
 use Rattle.std.proofs.lemmas.List.{length_push, get_or_push, get_or_append_left, get_or_default}
 use Rattle.machine.specs.Policy.{Policy}
 use Rattle.machine.specs.Flow.{Node, obj, dom, number, Link, Walk, here, on, trail}

@@ -7,9 +7,9 @@ Bytes = List ℕ
 pub data Refusal : Type 0 where
   no_seat : Refusal
   seat_idle : Refusal
-  no_object_lem : Refusal
+  no_object : Refusal
   too_long : Refusal
-  no_domain_lem : Refusal
+  no_domain : Refusal
   few_places : Refusal
   short_buffer : Refusal
   -- the length of the first path that failed, and the letter lacking there
@@ -23,11 +23,11 @@ abbrev pub numbered : Refusal → ℕ × Option (ℕ × ℕ)
 numbered no_seat = (20, None)
 -- a seat that was not started
 numbered seat_idle = (21, None)
-numbered no_object_lem = (22, None)
+numbered no_object = (22, None)
 -- more than 64 bytes handed over
 numbered too_long = (23, None)
 -- the wish is no domain
-numbered no_domain_lem = (24, None)
+numbered no_domain = (24, None)
 -- the store has fewer places than the policy has objects
 numbered few_places = (25, None)
 -- a buffer of less than 64 bytes

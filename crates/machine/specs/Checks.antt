@@ -1,7 +1,7 @@
 -- Why a call is not admitted: the checks, in their order.
 use Rattle.std.specs.Prelude.{ℕ, Bool, true, false, List, [], ◌∷◌, length, Some, None, Ok, Err, Option, Result, nat_le, nat_lt}
 use Rattle.machine.specs.Policy.{Policy}
-use Rattle.machine.specs.Answers.{Refusal, no_object_lem, too_long, no_domain_lem, short_buffer, denied, no_passage}
+use Rattle.machine.specs.Answers.{Refusal, no_object, too_long, no_domain, short_buffer, denied, no_passage}
 use Rattle.machine.specs.Calls.{Call, object, act, handed, room, wish}
 
 abbrev pub unless : Bool → Refusal → Option Refusal
@@ -31,9 +31,9 @@ first_of (None ∷ checks) = first_of checks
 unfoldable pub refusal : Policy → ℕ → Call → Option Refusal
 refusal P d c =
     first_of
-    (unless (nat_lt (object c) P.objects) no_object_lem ∷
+    (unless (nat_lt (object c) P.objects) no_object ∷
     unless (nat_le (length (handed c)) 64) too_long ∷
-    unless (wish_is_domain P (wish c)) no_domain_lem ∷
+    unless (wish_is_domain P (wish c)) no_domain ∷
     unless (nat_le 64 (room c)) short_buffer ∷
     denial (P.verdict (act c) d (object c)) ∷
     unless (wish_may_pass P d (object c) (wish c)) no_passage ∷ [])

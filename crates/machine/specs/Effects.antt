@@ -49,9 +49,9 @@ reply P d v (remove o) = taken
 reply P d v (run o w n) = reply_run (target P d o w) v
 
 -- The domain then held: only a run moves the seat, and an absent object moves nobody.
-abbrev pub if-present : ℕ → ℕ → Option Bytes → ℕ
-if-present d e None = d
-if-present d e (Some b) = e
+abbrev pub if_present : ℕ → ℕ → Option Bytes → ℕ
+if_present d e None = d
+if_present d e (Some b) = e
 
 abbrev pub moved : Policy → ℕ → Option Bytes → Call → ℕ
 moved P d v (read o n) = d
@@ -59,4 +59,4 @@ moved P d v (write o bytes) = d
 moved P d v (append o bytes) = d
 moved P d v (create o) = d
 moved P d v (remove o) = d
-moved P d v (run o w n) = if-present d (target P d o w) v
+moved P d v (run o w n) = if_present d (target P d o w) v

@@ -4,7 +4,7 @@
 -- empty contents in the first run and not in the second. It passes this on by an object that it may change: in the second run
 -- only, the object is made other than empty; the other seat, brought into the next domain, reads it; and it is made present again.
 use Rattle.std.specs.Prelude.{◌≡◌, ℕ, ◌<◌, Bool, true, false, cond, not, List, [], ◌∷◌, ◌++◌, Some, None, Option, ◌==◌}
-use Rattle.std.specs.List.{AllByRecursion as All}
+use Rattle.std.specs.List.{AllByRecursion}
 use Rattle.machine.specs.Policy.{Policy}
 use Rattle.machine.specs.Answers.{Answer, taken, held, ran, refused, absent}
 use Rattle.machine.specs.Calls.{Call, read, write, append, create, remove, run, object, wish, room}
@@ -14,7 +14,7 @@ use Rattle.machine.specs.Series.{Entry, start, turn, Series, after, told}
 use Rattle.machine.specs.Possible.{Possible, PossibleCall, PossibleSeries}
 use Rattle.machine.specs.Flow.{Live, live_first, live_pass, Node, obj, dom, Change, by-writing, by-appending, by-making, Link, learns, passes, alters, Walk, here, on, Objects, Chain}
 use Rattle.machine.specs.Separation.{Alike, AlikeOutside}
-use Rattle.machine.specs.Recipe.{Recipe, always, if-read-empty, series_of}
+use Rattle.machine.specs.Recipe.{Recipe, always, if_read_empty, series_of}
 
 -- ── The lines ──
 
@@ -46,7 +46,7 @@ seat_of true = 1
 
 -- the bearer tells by the object o
 abbrev pub tell : Carried → Change → ℕ → Entry Recipe
-tell c how o = turn (seat_of c.second) (if-read-empty (quiet how o) (telling how o))
+tell c how o = turn (seat_of c.second) (if_read_empty (quiet how o) (telling how o))
 
 -- the other seat comes into the next domain, and reads what the bearer tells
 abbrev pub hand_over : {P : Policy} {d : ℕ} → Live P d → Carried → Change → ℕ → List (Entry Recipe)
@@ -106,7 +106,7 @@ pub record PlainCall (P : Policy) (c : Call) : Type 0 where
 
 abbrev pub PlainRecipe : Policy → Recipe → Type 0
 PlainRecipe P (always c) = PlainCall P c
-PlainRecipe P (if-read-empty c e) = PlainCall P c × PlainCall P e
+PlainRecipe P (if_read_empty c e) = PlainCall P c × PlainCall P e
 
 -- of seat 0 or seat 1
 abbrev pub PlainLine : Policy → Entry Recipe → Type 0
@@ -124,10 +124,10 @@ pub record Leaks (P : Policy) (From To : Objects) (n : ℕ) (c : Chain P From To
   pub possible_first : Possible P (leak_beginnings c).0
   pub possible_second : Possible P (leak_beginnings c).1
   pub alike_outside : AlikeOutside P From (leak_beginnings c).0 (leak_beginnings c).1
-  pub plain_lines : All (PlainLine P) (leak_lines c)
+  pub plain_lines : AllByRecursion (PlainLine P) (leak_lines c)
   pub possible_series : PossibleSeries (leak_series c)
-  pub permitted_first : All Permitted (told P (loaded (leak_beginnings c).0) (leak_series c))
-  pub permitted_second : All Permitted (told P (loaded (leak_beginnings c).1) (leak_series c))
+  pub permitted_first : AllByRecursion Permitted (told P (loaded (leak_beginnings c).0) (leak_series c))
+  pub permitted_second : AllByRecursion Permitted (told P (loaded (leak_beginnings c).1) (leak_series c))
   -- at the chain's last object, which is one of To
   pub unlike :
       Alike (after P (loaded (leak_beginnings c).0) (leak_series c)).contents (after P (loaded (leak_beginnings c).1) (leak_series c)).contents

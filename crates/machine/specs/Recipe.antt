@@ -7,7 +7,7 @@ use Rattle.machine.specs.Series.{Rule, Entry, start, turn, Series}
 -- always one call; or one call if the seat has read empty contents since its start, and else another
 pub data Recipe : Type 0 where
   always : Call → Recipe
-  if-read-empty : Call → Call → Recipe
+  if_read_empty : Call → Call → Recipe
 
 abbrev pub reads_empty : Answer → Bool
 reads_empty taken = false
@@ -22,7 +22,7 @@ has_read_empty (a ∷ l) = cond (reads_empty a) true (has_read_empty l)
 
 abbrev pub rule_of : Recipe → Rule
 rule_of (always c) l = c
-rule_of (if-read-empty c e) l = cond (has_read_empty l) c e
+rule_of (if_read_empty c e) l = cond (has_read_empty l) c e
 
 abbrev pub entry_of : Entry Recipe → Entry Rule
 entry_of (start s) = start s

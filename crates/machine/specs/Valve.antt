@@ -1,12 +1,12 @@
 -- A small policy that lets knowledge through one way: object 0, of type 0, may be read, and object 1, of type 1, may be written.
-use Rattle.std.specs.Prelude.{◌≡◌, ℕ, ◌<◌, Bool, true, false, [], ◌∷◌, Some, None, Ok, Err, Option, Result, ◌==◌, refl}
+use Rattle.std.specs.Prelude.{◌≡◌, ℕ, Bool, true, false, [], ◌∷◌, Some, None, Ok, Err, Option, Result, ◌==◌, refl}
 use Rattle.std.proofs.Common.{sym, true≢false, arith, lit<}
 use Rattle.machine.specs.Policy.{Policy, Act, reading, writing, appending, making, running}
 use Rattle.machine.specs.Calls.{read, write}
 use Rattle.machine.specs.Series.{start, turn}
 use Rattle.machine.specs.Flow.{live_first, by-writing, learns, alters, here, on, Chain, of_type}
 use Rattle.machine.specs.Separation.{TypesSeparated}
-use Rattle.machine.specs.Recipe.{always, if-read-empty}
+use Rattle.machine.specs.Recipe.{always, if_read_empty}
 use Rattle.machine.specs.Leak.{leak_lines}
 
 -- granted, or denied at a path of two bytes for want of the letter
@@ -62,4 +62,4 @@ pub record OneWay : Type 0 where
   pub leaks : ¬ TypesSeparated valve 0 1
   pub leak_is :
       leak_lines through ≡
-      (start 0 ∷ turn 0 (always (read 0 64)) ∷ turn 0 (if-read-empty (write 1 []) (write 1 (1 ∷ []))) ∷ [])
+      (start 0 ∷ turn 0 (always (read 0 64)) ∷ turn 0 (if_read_empty (write 1 []) (write 1 (1 ∷ []))) ∷ [])

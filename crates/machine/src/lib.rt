@@ -1,6 +1,8 @@
 //! The machine of the access engine, as definitions over an abstract policy: contents, seats, calls, series;
 //! where a policy lets knowledge flow; and the theorem that two types are separated exactly if no chain leads from the one to the other.
 //! There is nothing to run: each function stands for the laws that its contract names.
+#![tactic(auto)]
+
 ghost use Rattle.std.specs.Prelude.{◌≡◌, true};
 ghost use Rattle.machine.specs.Separation.{TypesSeparatedExactly, SetsSeparatedExactly, SetsSeparatedFreely};
 ghost use Rattle.machine.specs.Leak.{EveryChainLeaks};

@@ -1,7 +1,7 @@
 -- A fault is found without a look at the lines behind it.
 use Rattle.std.proofs.Common.{◌≡◌, ℕ, ◌+◌, ◌<◌, ◌≤◌, List, [], ◌∷◌, ◌++◌, length, Ok, Err, sym, ap, ◌∙◌, arith}
 use Rattle.std.proofs.ByRecursion.{All-weaker}
-use Rattle.std.specs.List.{AllByRecursion as All}
+use Rattle.std.specs.List.{AllByRecursion}
 use Rattle.scan.specs.declared.step.Mode.TheVariants as mode
 use Rattle.scan.specs.Lex.{lex, tokens_of}
 use Rattle.scan.specs.Lineation.{front, LinesAreReadOneByOne}
@@ -25,7 +25,7 @@ fault_places : {e f : Reason} {p q : ℕ} → fault e p ≡ fault f q → p ≡ 
 fault_places h = cc
 
 -- no fault lies before all tokens
-no_fault_before : (c : Composed) (p : Position) (ts : List Piece) (e : Reason) (place : ℕ) → All (λ t. place < offset t) ts → reading c p ts ≡ fault e place → ⊥
+no_fault_before : (c : Composed) (p : Position) (ts : List Piece) (e : Reason) (place : ℕ) → AllByRecursion (λ t. place < offset t) ts → reading c p ts ≡ fault e place → ⊥
 no_fault_before c p [] e place all h = tables_are_no_fault (sym (reading-nil c p) ∙ h)
 no_fault_before c p (at q s ∷ ts) e place all h =
     (elim (on_token c p s) as (λ x. reading_by x q ts ≡ fault e place → ⊥) [
@@ -34,7 +34,7 @@ no_fault_before c p (at q s ∷ ts) e place all h =
     ]) (sym (reading-cons c p q s ts) ∙ h)
 
 -- tokens that all lie behind a fault play no part in it
-fault_stands_without : (c : Composed) (p : Position) (ts us vs : List Piece) (e : Reason) (place : ℕ) → All (λ t. place < offset t) us → reading c p (ts ++ us) ≡ fault e place → reading c p (ts ++ vs) ≡ fault e place
+fault_stands_without : (c : Composed) (p : Position) (ts us vs : List Piece) (e : Reason) (place : ℕ) → AllByRecursion (λ t. place < offset t) us → reading c p (ts ++ us) ≡ fault e place → reading c p (ts ++ vs) ≡ fault e place
 fault_stands_without c p [] us vs e place all h = absurd (no_fault_before c p us e place all h)
 fault_stands_without c p (at q s ∷ ts) us vs e place all h =
     reading-cons c p q s (ts ++ vs)

@@ -2,7 +2,7 @@
 use Rattle.std.proofs.Common.{◌≡◌, ℕ, ◌<◌, ◌≤◌, List, [], ◌∷◌, ◌++◌, length, Ok, Err, sym, refl, ap, ◌∙◌, subst, arith}
 use Rattle.std.proofs.ByRecursion.{All-weaker, All-push}
 use Rattle.std.proofs.lemmas.List.{append-nil}
-use Rattle.std.specs.List.{AllByRecursion as All}
+use Rattle.std.specs.List.{AllByRecursion}
 use Rattle.scan.specs.declared.token.Mark.TheVariants as mark
 use Rattle.scan.specs.Lex.{tokens_of}
 use Rattle.scan.specs.Lineation.{front}
@@ -121,18 +121,18 @@ module _ (order : TokensAreInOrder) (c : Composed) (text : List ℕ) where
   pub read_is_whole : (d : Composed) → read c text ≡ tables d → Whole c text d
   read_is_whole d h = let t = subst (Says c Start (tokens_of text)) h (says c Start (tokens_of text)) in (ends_line d t.0 t.1).1
 
-  within_text : All (λ t. offset t ≤ length text) (tokens_of text)
+  within_text : AllByRecursion (λ t. offset t ≤ length text) (tokens_of text)
   within_text =
       let inner = All-weaker (λ t. offset t < length text) (λ t. offset t ≤ length text) (λ t h. omega arith) (front (tokens_of text)) (order text).within in
-      subst (All (λ t. offset t ≤ length text)) (sym (order text).ends) (All-push (λ t. offset t ≤ length text) (front (tokens_of text)) (at (length text) (sign mark.Last)) inner (omega arith))
+      subst (AllByRecursion (λ t. offset t ≤ length text)) (sym (order text).ends) (All-push (λ t. offset t ≤ length text) (front (tokens_of text)) (at (length text) (sign mark.Last)) inner (omega arith))
 
-  at_one : (ts us : List Piece) (t : Piece) → All (λ x. offset x ≤ length text) (ts ++ t ∷ us) → offset t ≤ length text
+  at_one : (ts us : List Piece) (t : Piece) → AllByRecursion (λ x. offset x ≤ length text) (ts ++ t ∷ us) → offset t ≤ length text
   at_one [] us t all = all.0
   at_one (x ∷ ts) us t all = at_one ts us t all.1
 
   said_exactly : (o : Outcome) → Says c Start (tokens_of text) o → Exact c text o
   said_exactly (tables d) (q, t) = subst (λ x. Taken c Start (tokens_of text) d x) (ends_line d q t).0 t
-  said_exactly (fault e place) f = (at_one f.before f.behind (at place f.said) (subst (All (λ t. offset t ≤ length text)) f.stands within_text), f)
+  said_exactly (fault e place) f = (at_one f.before f.behind (at place f.said) (subst (AllByRecursion (λ t. offset t ≤ length text)) f.stands within_text), f)
 
   exactly_read : (o : Outcome) → Exact c text o → read c text ≡ o
   exactly_read (tables d) t = ap (reading c Start) (sym (append-nil (tokens_of text))) ∙ taken_goes_on c Start (tokens_of text) [] d Start t ∙ reading-nil d Start

@@ -1,6 +1,6 @@
 -- The same bytes further on give the same tokens, and the same outcome but for a fault's place.
 use Rattle.std.proofs.Common.{◌≡◌, ℕ, ◌+◌, ◌≤◌, List, [], ◌∷◌, map, Ok, Err, sym, refl, ap, ◌∙◌, subst, zero-add, arith}
-use Rattle.std.specs.List.{AllByRecursion as All}
+use Rattle.std.specs.List.{AllByRecursion}
 use Rattle.scan.specs.declared.step.Mode.{Mode}
 use Rattle.scan.specs.declared.step.Mode.TheVariants as mode
 use Rattle.scan.specs.Bytes.{class_at}
@@ -46,9 +46,9 @@ reading-further n c p (at place s ∷ ts) =
     ]
     ∙ ap (further n) (sym (reading-cons c p place s ts))
 
-moved_from : (n : ℕ) (ts : List Piece) → All (λ t. n ≤ offset t) (map (moved n) ts)
+moved_from : (n : ℕ) (ts : List Piece) → AllByRecursion (λ t. n ≤ offset t) (map (moved n) ts)
 moved_from n [] = tt
 moved_from n (at p s ∷ ts) = (omega arith, moved_from n ts)
 
-pub places_from : (n : ℕ) (v : List ℕ) → All (λ t. n ≤ offset t) (lex mode.Blank n v)
-places_from n v = subst (All (λ t. n ≤ offset t)) (sym (tokens-further n v)) (moved_from n (tokens_of v))
+pub places_from : (n : ℕ) (v : List ℕ) → AllByRecursion (λ t. n ≤ offset t) (lex mode.Blank n v)
+places_from n v = subst (AllByRecursion (λ t. n ≤ offset t)) (sym (tokens-further n v)) (moved_from n (tokens_of v))

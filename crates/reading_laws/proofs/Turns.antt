@@ -1,6 +1,6 @@
 -- Two texts with a line feed between them are read as the one and then the other.
 use Rattle.std.proofs.Common.{◌≡◌, ℕ, ◌+◌, false, List, [], ◌∷◌, length, Ok, refl, ap, ◌∙◌}
-use Rattle.std.specs.List.{AllByRecursion as All}
+use Rattle.std.specs.List.{AllByRecursion}
 use Rattle.scan.specs.declared.step.Mode.TheVariants as mode
 use Rattle.scan.specs.declared.token.Mark.TheVariants as mark
 use Rattle.scan.specs.Lex.{lex, tokens_of}
@@ -38,7 +38,7 @@ not_stray (sign mark.End) c p place x h = refl
 not_stray (sign mark.Last) c p place x h = refl
 not_stray (sign mark.Stray) c p place x h = absurd (stray_fits_nowhere (fit p) c x h)
 
-taken_is_clean : (c : Composed) (p : Position) (ts : List Piece) (d : Composed) (q : Position) → Taken c p ts d q → All (λ t. is_stray t ≡ false) ts
+taken_is_clean : (c : Composed) (p : Position) (ts : List Piece) (d : Composed) (q : Position) → Taken c p ts d q → AllByRecursion (λ t. is_stray t ≡ false) ts
 taken_is_clean c p [] d q t = tt
 taken_is_clean c p (at place s ∷ ts) d q (next, e, t) = (not_stray s c p place next e, taken_is_clean next.0 next.1 ts d q t)
 

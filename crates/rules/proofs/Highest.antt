@@ -1,19 +1,19 @@
 -- The rule of the highest rank is the rule that decides.
-use Rattle.std.proofs.Common.{◌≡◌, ℕ, zero, suc, ◌+◌, ◌-◌, ◌*◌, ◌<◌, ◌≤◌, Bool, true, false, cond, not, ◌&&◌, ◌||◌, eqb, ltb, ◌⊎◌, List, [], ◌∷◌, ◌++◌, length, get_or, take, drop, Some, None, Decides, Option, sym, refl, ap, ◌∙◌, subst, inl, inr, ⊎_elim, arith}
+use Rattle.std.proofs.Common.{◌≡◌, ℕ, zero, suc, ◌+◌, ◌-◌, ◌*◌, ◌<◌, ◌≤◌, Bool, true, false, cond, ◌&&◌, ◌||◌, eqb, ltb, ◌⊎◌, List, [], ◌∷◌, length, get_or, take, drop, Some, None, Decides, Option, sym, refl, ap, ◌∙◌, subst, inl, inr, ⊎_elim, arith}
 use Rattle.std.proofs.lemmas.List.{at_drop_more, at_drop_all, take_all, length-take-le}
-use Rattle.std.proofs.lemmas.Bool.{true≢false, cases_Bool, cases_eq, cases_lt, and_parts, and_from, cond-true, cond-false, lt-ltb, le-ltb, ltb-true, ltb-false, eq-eqb, ne_eqb, eqb-true, eqb-false, or_cases, or_left, or_right}
+use Rattle.std.proofs.lemmas.Bool.{cases_Bool, cases_eq, and_parts, and_from, cond-true, cond-false, lt-ltb, le-ltb, ltb-true, ltb-false, eq-eqb, ne_eqb, eqb-true, or_cases}
 use Rattle.std.specs.Option.{option_or}
 use Rattle.std.specs.Str.{bytes_eq}
 use Rattle.std.proofs.lemmas.Slice.Eq.{bytes_eq-Decides}
-use Rattle.std.proofs.lemmas.Bool.Decides.{same_from_decides, Decides-eqb, Decides-and}
+use Rattle.std.proofs.lemmas.Bool.Decides.{same_from_decides, Decides-and}
 use Rattle.label.specs.Paths.{ancestor}
 use Rattle.label.specs.Texts.{text}
 use Rattle.rules.specs.declared.rule.Flag.{Flag}
 use Rattle.rules.specs.declared.rule.Flag.TheVariants.{E, U, R}
 use Rattle.rules.specs.declared.rule.Rule.{Rule}
-use Rattle.rules.specs.Typing.{same_flag, stands_on, rule_on, under, above, deciding}
+use Rattle.rules.specs.Typing.{stands_on, rule_on, above, deciding}
 use Rattle.rules.specs.Ranks.{reaches, covers, strength, claim, rank, highest}
-use Rattle.rules.proofs.Finds.{flag_is, flag_itself, same_flag_decides}
+use Rattle.rules.proofs.Finds.{same_flag_decides}
 
 or_assoc : (a b c : Option Rule) → option_or (option_or a b) c ≡ option_or a (option_or b c)
 or_assoc None b c = refl

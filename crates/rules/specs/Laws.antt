@@ -1,5 +1,5 @@
 -- How a path comes by its type, in words that need no search.
-use Rattle.std.specs.Prelude.{◌≡◌, ℕ, ◌<◌, Bool, true, false, ◌⊎◌, ◌↔◌, List, [], ◌∷◌, length, take, is_some, Some, None, codes, Option}
+use Rattle.std.specs.Prelude.{◌≡◌, ℕ, ◌<◌, true, ◌⊎◌, ◌↔◌, List, [], ◌∷◌, take, is_some, Some, None, codes}
 use Rattle.label.specs.Paths.{ancestor, IsPath}
 use Rattle.label.specs.Texts.{text}
 use Rattle.rules.specs.declared.rule.Rule.{Rule}

@@ -1,4 +1,6 @@
 //! Rules, and the types that they give to paths.
+#![tactic(auto)]
+
 ghost use Rattle.std.specs.Prelude.{◌≡◌, ◌≤◌, [], ◌∷◌, ◌++◌, IfOk, vec_len};
 ghost use Rattle.label.specs.Refusals.{Takes};
 ghost use Rattle.label.specs.Texts.{text};

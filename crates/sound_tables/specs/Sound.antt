@@ -1,6 +1,6 @@
 -- Tables on which one can rely.
 use Rattle.std.specs.Prelude.{◌≡◌, ℕ, ◌<◌, ◌≤◌, true, false, ◌⊎◌, List, length, slice_index_or}
-use Rattle.std.specs.List.{AllByRecursion as All}
+use Rattle.std.specs.List.{AllByRecursion}
 use Rattle.label.specs.Letters.{none}
 use Rattle.label.specs.Texts.{name_text, text}
 use Rattle.label.specs.declared.name.Name.{Name}
@@ -52,9 +52,9 @@ pub record Distinct (m : Model) : Type 0 where
 pub record Declared (m : Model) : Type 0 where
   -- the default domain, if there is one
   pub first : declared_in m.first (length m.domains) ≡ true
-  pub rules : All (λ r. r.typ.0 < length m.types) m.rules
-  pub aparts : All (λ a. (a.from.0 < length m.types) × (a.to.0 < length m.types)) m.aparts
-  pub entries : All (λ x. x.dom.0 < length m.domains) m.entries
+  pub rules : AllByRecursion (λ r. r.typ.0 < length m.types) m.rules
+  pub aparts : AllByRecursion (λ a. (a.from.0 < length m.types) × (a.to.0 < length m.types)) m.aparts
+  pub entries : AllByRecursion (λ x. x.dom.0 < length m.domains) m.entries
   -- a domain that is not declared has no rights, and none has rights on a type that is not
   pub rights : (d t : ℕ) → (length m.domains ≤ d) ⊎ (length m.types ≤ t) → rights_on (holding_of m d) t ≡ none
   -- no passage leads from a domain, or to one, that is not declared

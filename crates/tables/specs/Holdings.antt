@@ -1,5 +1,5 @@
 -- What a domain holds.
-use Rattle.std.specs.Prelude.{ℕ, Bool, true, false, List, replicate, slice_index_or, slice_set}
+use Rattle.std.specs.Prelude.{ℕ, Bool, true, false, replicate, slice_index_or, slice_set}
 use Rattle.label.specs.Letters.{none, union}
 use Rattle.label.specs.declared.rights.Rights.{Rights}
 use Rattle.tables.specs.declared.holding.Holding.{Holding}

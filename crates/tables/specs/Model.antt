@@ -6,8 +6,6 @@ use Rattle.label.specs.Texts.{name_text, text}
 use Rattle.label.specs.declared.name.Name.{Name}
 use Rattle.label.specs.declared.path.Path.{Path}
 use Rattle.label.specs.declared.numbers.Dom.{Dom}
-use Rattle.label.specs.declared.numbers.Typ.{Typ}
-use Rattle.label.specs.declared.rights.Rights.{Rights}
 use Rattle.label.specs.declared.refusal.Refusal.{Refusal}
 use Rattle.label.specs.declared.refusal.Refusal.TheVariants.{Repeated, Undeclared}
 use Rattle.lists.specs.Places.{place_of}
@@ -15,11 +13,10 @@ use Rattle.rules.specs.Held.{rules_of, refusal_of}
 use Rattle.rules.specs.declared.rule.Rule.{Rule}
 use Rattle.tables.specs.declared.entry.Entry.{Entry}
 use Rattle.tables.specs.declared.holding.Holding.{Holding}
-use Rattle.tables.specs.declared.holding.Passage.{Passage}
 use Rattle.tables.specs.declared.table.Apart.{Apart}
 use Rattle.tables.specs.declared.table.Tables.{Tables}
 use Rattle.tables.specs.Entries.{enters, count_of}
-use Rattle.tables.specs.Holdings.{nothing, with_rights, with_passage}
+use Rattle.tables.specs.Holdings.{nothing}
 
 -- Types, domains and objects are numbered from 0 in the order of declaration.
 pub record Model : Type 0 where

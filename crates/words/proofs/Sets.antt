@@ -5,7 +5,7 @@ use Rattle.std.proofs.lemmas.List.{at_drop_more, at_drop_all}
 use Rattle.std.proofs.lemmas.Bool.{cond_both, both_ways, eq-eqb, ne_eqb, eqb-true, eqb-false, or_cases, or_left, or_right, cases_Bool, cases_eq, not-true, not-false}
 use Rattle.std.proofs.lemmas.Bool.Decides.{same_from_decides}
 use Rattle.std.specs.Option.{option_map, option_flatten}
-use Rattle.std.specs.List.{AllByRecursion as All}
+use Rattle.std.specs.List.{AllByRecursion}
 use Rattle.label.specs.declared.rights.Rights.{Rights}
 use Rattle.label.specs.Letters.{bit, meets, has, none, union}
 use Rattle.label.proofs.Bits.{sets}
@@ -74,7 +74,7 @@ with_letter_is s l = at (has s l) refl (bit l) (bit_of l)
 
 -- t is s with the letters of bs besides, each of them new
 record Grown (s : Rights) (bs : List ℕ) (t : Rights) : Type 0 where
-  letters : All Letter bs
+  letters : AllByRecursion Letter bs
   once : Distinct bs
   new : (l : ℕ) → Among bs l → has s l ≡ false
   has_is : (m : ℕ) → Decides (has t m) ((has s m ≡ true) ⊎ Among bs m)
@@ -119,7 +119,7 @@ grows s (b ∷ bs) = at (with_letter s b) (with_letter_is s b) (λ u. grows u bs
         then (Some t) g = grown_more s u t b bs h g
 
 -- new letters, each once, are all taken
-makes : (s : Rights) (bs : List ℕ) → All Letter bs → Distinct bs → ((l : ℕ) → Among bs l → has s l ≡ false) → (t : Rights) × (with_letters s bs ≡ Some t)
+makes : (s : Rights) (bs : List ℕ) → AllByRecursion Letter bs → Distinct bs → ((l : ℕ) → Among bs l → has s l ≡ false) → (t : Rights) × (with_letters s bs ≡ Some t)
 unfolding with_letters
 makes s [] letters once new = (s, refl)
 makes s (b ∷ bs) letters once new = at (with_letter s b) (with_letter_is s b) (λ u. makes u bs letters.1 once.1)

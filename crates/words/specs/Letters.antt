@@ -1,7 +1,7 @@
 -- Words that are letters of rights.
 use Rattle.std.specs.Prelude.{◌≡◌, ℕ, ◌<◌, cond, ◌⊎◌, ◌↔◌, List, [], ◌∷◌, Some, None, codes, Decides, Option}
 use Rattle.std.specs.Option.{option_map, option_flatten}
-use Rattle.std.specs.List.{AllByRecursion as All}
+use Rattle.std.specs.List.{AllByRecursion}
 use Rattle.label.specs.declared.rights.Rights.{Rights}
 use Rattle.label.specs.Letters.{bit, has, none, union}
 
@@ -32,7 +32,7 @@ Distinct (b ∷ bs) = (Among bs b → ⊥) × Distinct bs
 -- one letter or more, each once
 pub record OnceEach (bs : List ℕ) : Type 0 where
   pub some : bs ≡ [] → ⊥
-  pub letters : All (Among (codes "rwaxcd")) bs
+  pub letters : AllByRecursion (Among (codes "rwaxcd")) bs
   pub once : Distinct bs
 
 -- the set has the letters that the bytes are, and nothing else

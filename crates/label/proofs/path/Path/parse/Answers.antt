@@ -1,4 +1,4 @@
-use Rattle.std.proofs.Common.{length, sym, refl, ap, subst}
+use Rattle.std.proofs.Common.{sym, refl, ap, subst}
 use Rattle.std.specs.Option.{ok_or}
 use Rattle.std.proofs.lemmas.Bool.{false≢true}
 use Rattle.label.specs.Paths.{IsPath}
@@ -6,19 +6,19 @@ use Rattle.label.specs.Held.{held_text, pathed_held, pathed-none}
 use Rattle.label.specs.declared.refusal.Refusal.TheVariants.{Misshapen}
 use Rattle.label.proofs.path.Path.parse.Goals as goal
 
-pub invariant-of-result : goal.invariant-of-result
-invariant-of-result c =
-    let n : IsPath c.args.s.now = c.if-not-is-path.ensures.0 refl in
-    (n.short, (∣ subst IsPath (sym (held_text 64 c.args.s.now _ c.held.ensures)) n ∣₁, tt))
+pub invariant_of-result : goal.invariant_of-result
+invariant_of-result c =
+    let n : IsPath c.args.s.now = c.if-not-is_path.ensures.0 refl in
+    record { fits = n.short; ok = ∣ subst IsPath (sym (held_text 64 c.args.s.now _ c.held.ensures)) n ∣₁ }
 
-pub returns-then-not-is-path : goal.returns-then-not-is-path
-returns-then-not-is-path c =
-    let no-path : IsPath c.args.s.now → ⊥ = λ n. absurd (false≢true (c.if-not-is-path.ensures.1 n)) in
+pub returns-then-not-is_path : goal.returns-then-not-is_path
+returns-then-not-is_path c =
+    let no-path : IsPath c.args.s.now → ⊥ = λ n. absurd (false≢true (c.if-not-is_path.ensures.1 n)) in
     record { reads = (no-path, refl); value = sym (ap (λ o. ok_or o Misshapen) (pathed-none c.args.s.now no-path)) }
 
 pub returns : goal.returns
 returns c =
-    let n : IsPath c.args.s.now = c.if-not-is-path.ensures.0 refl in
+    let n : IsPath c.args.s.now = c.if-not-is_path.ensures.0 refl in
     record {
       reads = (n, held_text 64 c.args.s.now _ c.held.ensures);
       value = sym (ap (λ o. ok_or o Misshapen) (pathed_held _ c.args.s.now n c.held.ensures refl));

@@ -7,8 +7,8 @@ use Rattle.label.proofs.path.Path.root.Goals as goal
 root_path : IsPath (codes "/")
 root_path = path_root (codes "/") refl refl
 
-pub invariant-of-result : goal.invariant-of-result
-invariant-of-result c = (omega arith, (∣ subst IsPath (sym (held_text 64 (codes "/") _ c.held.ensures)) root_path ∣₁, tt))
+pub invariant_of-result : goal.invariant_of-result
+invariant_of-result c = record { fits = omega arith; ok = ∣ subst IsPath (sym (held_text 64 (codes "/") _ c.held.ensures)) root_path ∣₁ }
 
 pub returns : goal.returns
 returns c = record { text = held_text 64 (codes "/") _ c.held.ensures; value = sym (pathed_held _ (codes "/") root_path c.held.ensures refl) }

@@ -4,5 +4,5 @@ use Rattle.rules.proofs.rule.Rule.covers.Goals as goal
 
 pub returns-then-reaches : goal.returns-then-reaches
 returns-then-reaches c =
-    covers_by c.args.self.now c.args.path.now c.as-bytes-own.result.now _ c.as-bytes-own.ensures.value (sym c.if-reaches.ensures)
-    c.are-same.ensures
+    covers_by c.args.self.now c.args.path.now c.as_bytes-own.result.now _ c.as_bytes-own.ensures.value (sym c.if-reaches.ensures)
+    c.are_same.ensures

@@ -1,4 +1,4 @@
-use Rattle.std.proofs.Common.{ap, ◌∙◌, arith, rules}
+use Rattle.std.proofs.Common.{ap, ◌∙◌, arith}
 use Rattle.tables.specs.Entries.{count_of}
 use Rattle.tables.proofs.Enters.{count_here, count_more, count_end}
 use Rattle.tables.proofs.entry.Entries.count.Goals as goal

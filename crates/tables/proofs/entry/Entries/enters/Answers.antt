@@ -3,8 +3,8 @@ use Rattle.tables.specs.Entries.{enters}
 use Rattle.tables.proofs.Enters.{enters_here, enters_more, enters_none}
 use Rattle.tables.proofs.entry.Entries.enters.Goals as goal
 
-pub returns-then-is-for : goal.returns-then-is-for
-returns-then-is-for c =
+pub returns-then-is_for : goal.returns-then-is_for
+returns-then-is_for c =
     enters_here _ _ c.entry-item.result _ c.loop-entry-test.true c.entry-item.is _ c.loop-entry.invariant (search rules)
     ∙ ap (λ x. enters x c.args.dom.0 c.args.path.now) c.deref-entry-items.ensures.value
 

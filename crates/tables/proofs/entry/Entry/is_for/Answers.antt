@@ -5,4 +5,4 @@ use Rattle.std.proofs.lemmas.Bool.Decides.{Decides-eqb}
 
 pub returns-then-self-dom : goal.returns-then-self-dom
 returns-then-self-dom c =
-    is_for_by c.args.self.now _ _ _ _ c.if-self-dom.true c.as-bytes.ensures.value (slice_eq-Decides Decides-eqb _ _ _ c.eq.ensures)
+    is_for_by c.args.self.now _ _ _ _ c.if-self-dom.true c.as_bytes.ensures.value (slice_eq-Decides Decides-eqb _ _ _ c.eq.ensures)

@@ -1,4 +1,4 @@
-use Rattle.std.proofs.Common.{◌≡◌, ℕ, ◌≤◌, false, List, length, sym, rules}
+use Rattle.std.proofs.Common.{◌≡◌, ℕ, ◌≤◌, false, length, sym, rules}
 use Rattle.std.proofs.lemmas.List.{get_or_past}
 use Rattle.tables.specs.Holdings.{listed}
 use Rattle.tables.specs.declared.holding.Holding.{Holding}

@@ -3,12 +3,12 @@ use Rattle.tables.proofs.table.Tables.copy.Goals as goal
 
 pub returns : goal.returns
 returns c =
-    let types = c.in-ok-copy.ensures in
-    let domains = c.in-ok-copy-2.ensures in
-    let rules = c.in-ok-copy-3.ensures in
-    let objects = c.in-ok-copy-4.ensures in
-    let entries = c.in-ok-copy-5.ensures in
-    let aparts = c.in-ok-from-slice.ensures.items ∙ c.as-slice.ensures.value in
+    let types = c.in_ok-copy.ensures in
+    let domains = c.in_ok-copy-2.ensures in
+    let rules = c.in_ok-copy-3.ensures in
+    let objects = c.in_ok-copy-4.ensures in
+    let entries = c.in_ok-copy-5.ensures in
+    let aparts = c.in_ok-from_slice.ensures.items ∙ c.as_slice.ensures.value in
     λ j. record {
       types = types j;
       domains = domains j;
