@@ -1,7 +1,6 @@
 -- The laws of grants and passages.
-use Rattle.std.proofs.Common.{◌≡◌, ℕ, zero, suc, ◌<◌, ◌≤◌, Bool, true, false, cond, not, ◌&&◌, ◌||◌, ltb, ◌⊎◌, List, [], ◌∷◌, map, length, get_or, take, is_some, is_ok, Some, None, Ok, Err, Option, Result, sym, refl, ap, ◌∙◌, subst, inl, inr, ⊎_elim, arith}
-use Rattle.std.proofs.lemmas.List.{get_or-map, get_or_past}
-use Rattle.std.proofs.lemmas.Bool.{true≢false, cases_Bool, and_parts, and_from, and_cases, and_right, not-true, not-false, not_from_true, or_cases, or_parts, or_left, cond-true, leb-false, ltb-true}
+use Rattle.std.proofs.Common.{◌≡◌, ℕ, zero, suc, ◌<◌, Bool, true, false, not, ◌&&◌, ◌||◌, ◌⊎◌, List, [], ◌∷◌, map, length, get_or, take, is_some, is_ok, Some, None, Ok, Err, Option, Result, sym, refl, ap, ◌∙◌, subst, inl, inr, ⊎_elim, arith}
+use Rattle.std.proofs.lemmas.Bool.{true≢false, cases_Bool, and_parts, and_cases, and_right, not-true, not-false, not_from_true, or_cases, cond-true, leb-false}
 use Rattle.std.specs.Option.{option_map}
 use Rattle.label.specs.Letters.{letter_r, letter_x, letter_d}
 use Rattle.label.specs.Paths.{ancestor}
@@ -12,11 +11,11 @@ use Rattle.label.specs.declared.numbers.Typ.{Typ}
 use Rattle.rules.proofs.Lawful.{path_typed}
 use Rattle.tables.specs.Model.{Model}
 use Rattle.policy.specs.declared.complete.Policy.{Policy}
-use Rattle.policy.specs.Grants.{type_at, object_type, no_object, path_of, holds, barred, barrier, verdict, grant, grant_read, grant_on, read_on}
+use Rattle.policy.specs.Grants.{type_at, object_type, no_object, path_of, holds, barred, barrier, verdict, grant, grant_on, read_on}
 use Rattle.policy.specs.Holds.{model_of}
 use Rattle.policy.specs.Laws.{Reached, Denied, Only, Laws}
 use Rattle.policy.specs.Lowest.{lowest}
-use Rattle.policy.specs.LowestLaws.{Lowest, none_passes, none-lowest, is_lowest}
+use Rattle.policy.specs.LowestLaws.{none_passes, none-lowest, is_lowest}
 use Rattle.policy.specs.PassageLaws.{verdict-ok, verdict-granted, run_reads, r_reads, pass-parts, pass-runs, pass-object, pass_from, pass_to, auto_passes}
 use Rattle.policy.specs.Passages.{runs, pass, leads, target, auto}
 use Rattle.policy.specs.Sheets.{number_of, type_number}

@@ -1,5 +1,5 @@
 -- What a complete or sealed policy says.
-use Rattle.std.specs.Prelude.{◌≡◌, ℕ, ◌<◌, Bool, cond, not, ◌&&◌, ◌||◌, List, [], length, get_or, is_some, Some, None, Ok, Err, codes, Option, Result}
+use Rattle.std.specs.Prelude.{ℕ, Bool, cond, ◌&&◌, is_some, Some, None, Ok, Err, codes, Option, Result}
 use Rattle.label.specs.declared.refusal.Refusal.{Refusal}
 use Rattle.label.specs.declared.refusal.Refusal.TheVariants.{NoObject, NoDomain, Denied}
 use Rattle.rules.specs.Typing.{rule_on}

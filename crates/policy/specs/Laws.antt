@@ -1,12 +1,12 @@
 -- What grants and passages come to, for those who use them.
-use Rattle.std.specs.Prelude.{◌≡◌, ℕ, ◌<◌, Bool, true, false, ◌⊎◌, ◌↔◌, List, length, take, is_some, is_ok, Some, None, Ok, Err, Option}
+use Rattle.std.specs.Prelude.{◌≡◌, ℕ, ◌<◌, true, false, ◌⊎◌, ◌↔◌, List, length, take, is_some, is_ok, Some, Err, Option}
 use Rattle.std.specs.Option.{option_map}
 use Rattle.label.specs.Letters.{letter_r, letter_x, letter_d}
 use Rattle.label.specs.Paths.{ancestor, IsPath}
 use Rattle.label.specs.declared.numbers.Typ.{Typ}
 use Rattle.tables.specs.Model.{Model}
 use Rattle.policy.specs.declared.complete.Policy.{Policy}
-use Rattle.policy.specs.Grants.{type_at, object_type, no_object, path_of, holds, grant, grant_read, grant_on, read_on}
+use Rattle.policy.specs.Grants.{type_at, object_type, no_object, path_of, holds, grant, grant_on, read_on}
 use Rattle.policy.specs.Holds.{model_of}
 use Rattle.policy.specs.Passages.{pass, auto, leads}
 use Rattle.policy.specs.Sheets.{type_number}

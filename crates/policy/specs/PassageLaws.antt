@@ -1,6 +1,6 @@
 -- What a grant and a passage rest on.
-use Rattle.std.specs.Prelude.{◌≡◌, ℕ, ◌<◌, ◌≤◌, Bool, true, false, cond, not, ◌&&◌, ◌||◌, ◌⊎◌, length, is_some, is_ok, Some, None, Ok, Err, Option, Result, refl}
-use Rattle.std.proofs.Common.{sym, ap, subst, ◌∙◌, inl, inr, ⊎_elim, arith}
+use Rattle.std.specs.Prelude.{◌≡◌, ℕ, ◌<◌, Bool, true, false, not, ◌&&◌, ◌||◌, length, is_ok, Some, None, Option, refl}
+use Rattle.std.proofs.Common.{sym, ap, ◌∙◌, ⊎_elim, arith}
 use Rattle.std.proofs.lemmas.Bool.{true≢false, and_parts, and_from, not-true, not_from_false, or_parts, or_from, or_left, or_right, leb-false, lt-leb, cases_Bool, cond-true, cond-false}
 use Rattle.std.specs.Option.{option_map}
 use Rattle.label.specs.Letters.{letter_r, letter_x}
@@ -8,8 +8,7 @@ use Rattle.label.specs.declared.numbers.Dom.{Dom}
 use Rattle.tables.specs.Entries.{enters}
 use Rattle.tables.specs.Holdings.{listed}
 use Rattle.tables.specs.Model.{Model, holding_of, no_domain}
-use Rattle.tables.specs.declared.holding.Passage.TheVariants.{Auto, Exec}
-use Rattle.policy.specs.Lowest.{lowest}
+use Rattle.tables.specs.declared.holding.Passage.TheVariants.{Auto}
 use Rattle.policy.specs.LowestLaws.{Lowest, is_lowest}
 use Rattle.policy.specs.Grants.{no_object, path_of, holds, barrier, verdict, grant_on, read_on, object_type}
 use Rattle.policy.specs.Passages.{passage_to, runs, entered, pass, leads, target, auto}

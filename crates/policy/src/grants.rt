@@ -124,8 +124,8 @@ impl Policy {
 
     // Whether the first `n` bytes are an ancestor of the path, and the domain lacks d on its type.
     fn bars(&self, dom: Dom, path: &[u8], site: &Site, n: usize) -> bool
-        requires path_len_bound { (length path.now ≤ 64) × (n < length path.now) }
-        requires site_for { SiteFor (model_of self.now) path.now site.now }
+        requires short { (length path.now ≤ 64) × (n < length path.now) }
+        requires sited { SiteFor (model_of self.now) path.now site.now }
         ensures { result ≡ barred (model_of self.now) dom.0 path.now n }
     {
         is_ancestor(path, n) && !self.letters_on(dom, site.above[n]).has('d')
@@ -133,8 +133,8 @@ impl Policy {
 
     // The length of the first ancestor, from `/` downward, on whose type the domain lacks d.
     fn barrier(&self, dom: Dom, path: &[u8], site: &Site) -> Option<u8>
-        requires path_len_bound { length path.now ≤ 64 }
-        requires site_for { SiteFor (model_of self.now) path.now site.now }
+        requires short { length path.now ≤ 64 }
+        requires sited { SiteFor (model_of self.now) path.now site.now }
         ensures { result ≡ barrier (model_of self.now) dom.0 path.now }
     {
         for n in 0..path.len() {
@@ -178,8 +178,8 @@ impl Policy {
 
     // What is decided about the domain and the path.
     pub(crate) fn cell(&self, dom: Dom, path: &[u8], site: &Site) -> Cell
-        requires path_len_bound { length path.now ≤ 64 }
-        requires site_for { SiteFor (model_of self.now) path.now site.now }
+        requires short { length path.now ≤ 64 }
+        requires sited { SiteFor (model_of self.now) path.now site.now }
         ensures { result ≡ cell_of (model_of self.now) dom.0 path.now (type_at (model_of self.now) path.now) }
     {
         Cell {

@@ -1,4 +1,6 @@
 //! Decisions of a policy: types, grants and passages.
+#![tactic(auto)]
+
 ghost use Rattle.policy.specs.Asks.{Asks};
 ghost use Rattle.policy.specs.Laws.{Laws};
 

@@ -1,4 +1,4 @@
-use Rattle.std.proofs.Common.{sym, refl, ◌∙◌, rules}
+use Rattle.std.proofs.Common.{sym, refl, ◌∙◌}
 use Rattle.policy.specs.Lowest.{lowest}
 use Rattle.policy.proofs.Lowest.{lowest_more, lowest_here, lowest_end}
 use Rattle.policy.proofs.complete.Policy.barrier.Goals as goal

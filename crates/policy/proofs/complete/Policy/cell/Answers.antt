@@ -13,6 +13,6 @@ returns c =
     let d = c.args.dom.0 in
     let p = c.args.path.now in
     let few : length m.domains ≤ 32 = omega (arith, c.args.self.now.tables.domains.few, c.args.self.now.tables.domains.list.ok.0) in
-    let t : c.letters-on.result ≡ letters_on m d (type_at m p) = c.letters-on.ensures ∙ ap (letters_on m d) c.requires.1.typ in
-    let a : c.target.result ≡ target m d p = c.target.ensures ∙ target-among m d p c.args.site.now.entered few c.requires.1.entered in
+    let t : c.letters_on.result ≡ letters_on m d (type_at m p) = c.letters_on.ensures ∙ ap (letters_on m d) c.requires.sited.typ in
+    let a : c.target.result ≡ target m d p = c.target.ensures ∙ target-among m d p c.args.site.now.entered few c.requires.sited.entered in
     cc

@@ -6,4 +6,4 @@ use Rattle.policy.proofs.complete.Policy.grant.Goals as goal
 
 pub returns : goal.returns
 unfolding cell_of
-returns c = c.grant.ensures ∙ ap (λ x. verdict x.barrier (has x.letters c.args.letter) x.long c.args.letter) c.cell-on.ensures
+returns c = c.grant.ensures ∙ ap (λ x. verdict x.barrier (has x.letters c.args.letter) x.long c.args.letter) c.cell_on.ensures

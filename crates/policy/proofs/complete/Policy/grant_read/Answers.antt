@@ -7,4 +7,4 @@ use Rattle.policy.proofs.complete.Policy.grant_read.Goals as goal
 pub returns : goal.returns
 unfolding cell_of
 returns c =
-    c.grant-read.ensures ∙ ap (λ x. verdict x.barrier (has x.letters letter_r || has x.letters letter_x) x.long letter_r) c.cell-on.ensures
+    c.grant_read.ensures ∙ ap (λ x. verdict x.barrier (has x.letters letter_r || has x.letters letter_x) x.long letter_r) c.cell_on.ensures

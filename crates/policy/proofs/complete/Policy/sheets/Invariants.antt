@@ -1,4 +1,4 @@
-use Rattle.std.proofs.Common.{◌≡◌, ℕ, ◌<◌, [], length}
+use Rattle.std.proofs.Common.{◌≡◌, ℕ, ◌<◌, length}
 use Rattle.policy.specs.Grants.{path_of}
 use Rattle.policy.specs.Holds.{model_of}
 use Rattle.policy.specs.Sheets.{sheet_at, SheetFor}

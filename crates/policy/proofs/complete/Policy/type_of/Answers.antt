@@ -6,5 +6,5 @@ use Rattle.policy.proofs.complete.Policy.type_of.Goals as goal
 
 pub unwrap-requires : goal.unwrap-requires
 unwrap-requires c =
-    ap is_some (c.type-of.ensures ∙ ap (λ rs. type_of rs c.as-bytes.result.now) c.rules.ensures)
-    ∙ path_typed (model_of c.args.self.now).rules c.args.self.now.rooted c.as-bytes.result.now c.as-bytes.ensures.path
+    ap is_some (c.type_of.ensures ∙ ap (λ rs. type_of rs c.as_bytes.result.now) c.rules.ensures)
+    ∙ path_typed (model_of c.args.self.now).rules c.args.self.now.rooted c.as_bytes.result.now c.as_bytes.ensures.path

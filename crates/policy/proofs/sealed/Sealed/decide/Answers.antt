@@ -10,7 +10,7 @@ pub returns-in-Some : goal.returns-in-Some
 returns-in-Some c = refused_answer (model_of c.args.self.now.policy) c.args.dom.0 c.args.obj.0 _ _ c.in-Some.ensures
 
 pub cell-requires : goal.cell-requires
-cell-requires c = both_known (model_of c.args.self.now.policy) c.args.dom.0 c.args.obj.0 c.in-default.ensures
+cell-requires c = both_known (model_of c.args.self.now.policy) c.args.dom.0 c.args.obj.0 c.in_default.ensures
 
 pub returns : goal.returns
 unfolding cell_of grant_on
@@ -18,4 +18,4 @@ returns c =
     let l = c.args.letter in
     c.refused.ensures
     ∙ ap refusal (c.grant.ensures ∙ ap (λ x. verdict x.barrier (has x.letters l) x.long l) c.cell.ensures)
-    ∙ sym (known-answer (model_of c.args.self.now.policy) c.args.dom.0 c.args.obj.0 _ c.in-default.ensures)
+    ∙ sym (known-answer (model_of c.args.self.now.policy) c.args.dom.0 c.args.obj.0 _ c.in_default.ensures)

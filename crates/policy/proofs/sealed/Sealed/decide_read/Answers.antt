@@ -10,11 +10,11 @@ pub returns-in-Some : goal.returns-in-Some
 returns-in-Some c = refused_answer (model_of c.args.self.now.policy) c.args.dom.0 c.args.obj.0 _ _ c.in-Some.ensures
 
 pub cell-requires : goal.cell-requires
-cell-requires c = both_known (model_of c.args.self.now.policy) c.args.dom.0 c.args.obj.0 c.in-default.ensures
+cell-requires c = both_known (model_of c.args.self.now.policy) c.args.dom.0 c.args.obj.0 c.in_default.ensures
 
 pub returns : goal.returns
 unfolding cell_of read_on
 returns c =
     c.refused.ensures
-    ∙ ap refusal (c.grant-read.ensures ∙ ap (λ x. verdict x.barrier (has x.letters letter_r || has x.letters letter_x) x.long letter_r) c.cell.ensures)
-    ∙ sym (known-answer (model_of c.args.self.now.policy) c.args.dom.0 c.args.obj.0 _ c.in-default.ensures)
+    ∙ ap refusal (c.grant_read.ensures ∙ ap (λ x. verdict x.barrier (has x.letters letter_r || has x.letters letter_x) x.long letter_r) c.cell.ensures)
+    ∙ sym (known-answer (model_of c.args.self.now.policy) c.args.dom.0 c.args.obj.0 _ c.in_default.ensures)

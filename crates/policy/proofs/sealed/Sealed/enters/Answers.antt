@@ -7,4 +7,4 @@ both_known a b e p q = sym (ap (λ x. not (x || b) && e) p ∙ ap (λ y. not y &
 
 pub returns : goal.returns
 unfolding cell_of
-returns c = ap (λ x. x.enters) c.cell.ensures ∙ both_known _ _ _ (sym c.if-no-object.ensures) (sym c.if-no-domain.ensures)
+returns c = ap (λ x. x.enters) c.cell.ensures ∙ both_known _ _ _ (sym c.if-no_object.ensures) (sym c.if-no_domain.ensures)

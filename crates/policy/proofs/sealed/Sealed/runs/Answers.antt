@@ -8,6 +8,6 @@ use Rattle.policy.proofs.sealed.Sealed.runs.Goals as goal
 pub returns : goal.returns
 returns c =
     let m = model_of c.args.self.now.policy in
-    c.is-ok.ensures.value
+    c.is_ok.ensures.value
     ∙ ap is_ok c.decide.ensures
     ∙ answer-granted m c.args.dom.0 c.args.obj.0 (grant_on m c.args.dom.0 c.args.obj.0 letter_x)
