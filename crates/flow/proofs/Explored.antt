@@ -1,8 +1,8 @@
 -- What a search along the links of a chart finds are the chains of its policy.
-use Rattle.std.proofs.Common.{◌≡◌, ℕ, zero, suc, ◌+◌, ◌-◌, ◌<◌, ◌≤◌, Bool, true, false, ◌&&◌, eqb, ltb, ◌⊎◌, List, [], ◌∷◌, ◌++◌, map, get_or, Some, None, Option, sym, refl, ap, ◌∙◌, subst, inl, inr, ⊎_elim, arith}
+use Rattle.std.proofs.Common.{◌≡◌, ℕ, zero, suc, ◌+◌, ◌-◌, ◌<◌, Bool, true, false, ◌&&◌, ltb, List, [], ◌∷◌, ◌++◌, map, get_or, Some, None, Option, sym, refl, ap, ◌∙◌, subst, ⊎_elim, arith}
 use Rattle.std.proofs.lemmas.List.{map_push}
 use Rattle.std.proofs.lemmas.Bool.{true≢false, cases_lt, and_parts, and_from, lt-ltb, ltb-true, eq-eqb, eqb-true}
-use Rattle.machine.specs.Flow.{Live, Node, obj, dom, number, Link, learns, passes, alters, Walk, here, on, trail, Chain, NoChain, Shortest, Objects as Set}
+use Rattle.machine.specs.Flow.{Node, obj, dom, number, Link, learns, passes, alters, Walk, here, on, trail, Chain, NoChain, Objects as Set}
 use Rattle.machine.specs.Policy.{Policy as Asked}
 use Rattle.reach.specs.Distances.{distance_of, parent_of}
 use Rattle.reach.specs.Trails.{trail as nodesTo}
@@ -12,7 +12,7 @@ use Rattle.flow.specs.Charts.{Numbered, Charts}
 use Rattle.flow.specs.Rows.{linked}
 use Rattle.flow.specs.Sets.{within}
 use Rattle.flow.specs.Sources.{Sources}
-use Rattle.flow.specs.Spreads.{only, Held, HeldAt, SpreadOf}
+use Rattle.flow.specs.Spreads.{only, HeldAt, SpreadOf}
 use Rattle.flow.specs.declared.spread.Spread.{Spread}
 use Rattle.flow.proofs.Linking.{live_is}
 

@@ -1,5 +1,5 @@
 -- The row of a node leads to what it is linked to.
-use Rattle.std.proofs.Common.{◌≡◌, ℕ, ◌+◌, ◌-◌, ◌<◌, ◌≤◌, Bool, true, false, ◌&&◌, ◌||◌, ltb, ◌⊎◌, List, get_or, replicate, sym, refl, ap, ◌∙◌, subst, inl, inr, ⊎_elim, arith}
+use Rattle.std.proofs.Common.{◌≡◌, ℕ, ◌+◌, ◌-◌, ◌<◌, ◌≤◌, Bool, true, false, ◌||◌, ltb, List, get_or, replicate, sym, ◌∙◌, subst, ⊎_elim, arith}
 use Rattle.std.proofs.lemmas.Bool.{true≢false, and_parts, and_from, or_cases, or_left, or_right, lt-ltb, ltb-true}
 use Rattle.machine.specs.Flow.{Live, live_first, live_pass, Node, obj, dom, number, Change, by-writing, by-appending, by-making, act_of, Link, learns, passes, alters}
 use Rattle.machine.specs.Policy.{Act, reading, writing, appending, making, granted, Policy as Asked}
@@ -8,7 +8,6 @@ use Rattle.flow.specs.Allows.{allowed, changed}
 use Rattle.flow.specs.Charts.{Numbered}
 use Rattle.flow.specs.LinkRows.{Alive, RowOf, LearnersOf, EffectsOf}
 use Rattle.flow.specs.Passages.{PassagesOf}
-use Rattle.flow.specs.Rows.{leads}
 use Rattle.flow.proofs.Marks.{blank, domains_apart}
 
 module _ (P : Asked) where

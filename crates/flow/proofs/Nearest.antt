@@ -1,5 +1,5 @@
 -- The nearest of a set of objects is found one by one, and a shortest chain to it is a shortest chain to the set.
-use Rattle.std.proofs.Common.{◌≡◌, ℕ, suc, ◌+◌, ◌<◌, ◌≤◌, Bool, true, false, eqb, ltb, leb, ◌⊎◌, List, ◌++◌, length, drop, Some, None, Ok, Option, sym, refl, ap, ◌∙◌, subst, inl, inr, ⊎_elim, arith}
+use Rattle.std.proofs.Common.{◌≡◌, ℕ, suc, ◌+◌, ◌<◌, ◌≤◌, Bool, true, false, ltb, leb, List, ◌++◌, length, drop, Some, None, Ok, Option, sym, refl, ap, ◌∙◌, subst, ⊎_elim, arith}
 use Rattle.std.proofs.lemmas.Bool.{true≢false, cases_eq, ltb-true, ltb-false, eqb-true, eq-eqb, le-leb, le-ltb, cond-true}
 use Rattle.machine.specs.Flow.{Chain, NoChain, Shortest, Objects as Set}
 use Rattle.machine.specs.Policy.{Policy as Asked}
@@ -8,7 +8,7 @@ use Rattle.reach.specs.Trails.{traced, written}
 use Rattle.flow.specs.declared.spread.Near.{Near}
 use Rattle.flow.specs.declared.spread.Spread.{Spread}
 use Rattle.flow.specs.Nearest.{Nearer, Nearest, closer}
-use Rattle.flow.specs.Searches.{Searched, Answered, Shown}
+use Rattle.flow.specs.Searches.{Searched, Answered}
 use Rattle.flow.specs.Spreads.{only, Held, HeldAt, SpreadOf}
 
 none_is_not_some : {n : ℕ} (o : Option ℕ) → o ≡ None → o ≡ Some n → ⊥

@@ -1,11 +1,10 @@
 -- Rows are filled passage by passage.
-use Rattle.std.proofs.Common.{◌≡◌, ℕ, ◌+◌, ◌<◌, ◌≤◌, Bool, true, false, ◌&&◌, ltb, ◌⊎◌, length, get_or, set, replicate, sym, refl, ap, ◌∙◌, subst, inl, inr, ⊎_elim, arith}
+use Rattle.std.proofs.Common.{◌≡◌, ℕ, ◌+◌, ◌<◌, ◌≤◌, true, false, ltb, length, get_or, set, replicate, sym, ap, ◌∙◌, subst, inl, inr, ⊎_elim, arith}
 use Rattle.std.proofs.lemmas.Bool.{true≢false, cases_eq, and_from, lt-ltb}
 use Rattle.machine.specs.Policy.{running, Policy as Asked}
 use Rattle.flow.specs.declared.chart.Row.{Row}
 use Rattle.flow.specs.Allows.{allowed}
-use Rattle.flow.specs.Passages.{Passable, PassagesBy, PassagesOf}
-use Rattle.flow.specs.Rows.{leads}
+use Rattle.flow.specs.Passages.{PassagesBy, PassagesOf}
 use Rattle.flow.proofs.Marks.{blank, marked_new, marked_here, marked_still}
 
 module _ (P : Asked) (d : ℕ) where

@@ -1,5 +1,5 @@
 -- Of the objects of a set, one that is nearest.
-use Rattle.std.specs.Prelude.{◌≡◌, ℕ, ◌<◌, ◌≤◌, Bool, true, false, Some, None, Option, nat_lt}
+use Rattle.std.specs.Prelude.{◌≡◌, ℕ, ◌<◌, ◌≤◌, true, false, Some, None, Option, nat_lt}
 use Rattle.machine.specs.Flow.{Objects as Set}
 use Rattle.flow.specs.declared.spread.Near.{Near}
 

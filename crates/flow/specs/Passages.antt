@@ -1,9 +1,9 @@
 -- Where domains may pass to, as tables.
-use Rattle.std.specs.Prelude.{◌≡◌, ℕ, ◌+◌, ◌<◌, ◌≤◌, Bool, true, ◌⊎◌}
+use Rattle.std.specs.Prelude.{◌≡◌, ℕ, ◌+◌, ◌<◌, true, ◌⊎◌}
 use Rattle.machine.specs.Policy.{Policy as Asked}
 use Rattle.flow.specs.declared.chart.Row.{Row}
 use Rattle.flow.specs.declared.chart.Links.{Links}
-use Rattle.flow.specs.Rows.{leads, linked, row_at}
+use Rattle.flow.specs.Rows.{leads, row_at}
 
 -- d may pass to the domain whose node is v, by some object
 pub record Passable (P : Asked) (d v : ℕ) : Type 0 where

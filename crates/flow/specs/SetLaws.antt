@@ -6,7 +6,7 @@ use Rattle.label.specs.declared.refusal.Refusal.{Refusal}
 use Rattle.machine.specs.Flow.{Chain, NoChain, Shortest, of_type, Objects as Set}
 use Rattle.machine.specs.Policy.{Policy as Asked}
 use Rattle.flow.specs.declared.objects.Objects.{Objects}
-use Rattle.flow.specs.Searches.{Fewest, Shown, Answered, Searched}
+use Rattle.flow.specs.Searches.{Fewest, Answered, Searched}
 use Rattle.flow.specs.Sets.{among, within}
 
 abbrev pub SameObjects : Asked → Set → Set → Type 0

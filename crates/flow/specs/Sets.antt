@@ -1,5 +1,5 @@
 -- Sets of objects.
-use Rattle.std.specs.Prelude.{ℕ, Bool, false, ◌&&◌, ◌||◌, ◌==◌, nat_lt, slice_index_or}
+use Rattle.std.specs.Prelude.{ℕ, false, ◌&&◌, ◌||◌, ◌==◌, nat_lt, slice_index_or}
 use Rattle.machine.specs.Flow.{Objects as Set}
 use Rattle.machine.specs.Policy.{Policy as Asked}
 use Rattle.flow.specs.declared.objects.Objects.{Objects}

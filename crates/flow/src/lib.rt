@@ -1,4 +1,6 @@
 //! Live domains, links and shortest chains of a sealed policy.
+#![tactic(auto)]
+
 mod asking;
 pub mod chart;
 pub mod charting;

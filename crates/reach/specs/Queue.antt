@@ -1,5 +1,5 @@
 -- What holds of a search under way, along edges of E. A node whose distance is 255 is not found.
-use Rattle.std.specs.Prelude.{◌≡◌, ℕ, ◌+◌, ◌<◌, ◌≤◌, Bool, true, cond, ◌≢◌, ◌⊎◌, List, length, count_by, ◌==◌, nat_eq, slice_index, slice_set}
+use Rattle.std.specs.Prelude.{◌≡◌, ℕ, ◌+◌, ◌<◌, ◌≤◌, Bool, true, if◌then◌else◌, ◌≢◌, ◌⊎◌, List, length, count_by, ◌==◌, nat_eq, slice_index, slice_set}
 use Rattle.reach.specs.declared.search.Search.{Search}
 
 -- the distance of a node
@@ -29,7 +29,7 @@ pub record Room (s : Search) : Type 0 where
 -- Of the nodes below n, those in S are found; no other node is.
 pub record Started (S : ℕ → Bool) (n : ℕ) (s : Search) : Type 0 where
   pub room : Room s
-  pub below : (v : ℕ) → v < n → far_of s v ≡ cond (S v) 0 255
+  pub below : (v : ℕ) → v < n → far_of s v ≡ (if S v then 0 else 255)
   pub above : (v : ℕ) → n ≤ v → v < 160 → far_of s v ≡ 255
   pub first : (i : ℕ) → i < s.count → (node_at s i < n) × (far_of s (node_at s i) ≡ 0)
   pub queued : (v : ℕ) → v < n → S v ≡ true → (i : ℕ) × (i < s.count) × (node_at s i ≡ v)

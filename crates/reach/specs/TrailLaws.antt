@@ -1,5 +1,5 @@
 -- What a trace writes are the nodes of a shortest walk.
-use Rattle.std.specs.Prelude.{◌≡◌, ℕ, zero, suc, ◌+◌, ◌-◌, ◌<◌, ◌≤◌, Bool, true, false, cond, ◌⊎◌, List, [], ◌∷◌, ◌++◌, length, drop, Some, None, Option, ◌≢◌, nat_le, slice_index, slice_index_or, refl}
+use Rattle.std.specs.Prelude.{◌≡◌, ℕ, zero, suc, ◌+◌, ◌-◌, ◌<◌, ◌≤◌, Bool, true, false, cond, ◌⊎◌, List, [], ◌∷◌, ◌++◌, length, drop, Some, None, Option, ◌≢◌, nat_le, slice_index, refl}
 use Rattle.std.proofs.Common.{sym, ap, ◌∙◌, inl, inr, append_assoc, length-append}
 use Rattle.std.proofs.Math.Path.{subst}
 use native.Mathlib.Omega.{arith}
@@ -13,7 +13,7 @@ use Rattle.reach.specs.Walks.{Found, walk_to_node, walk_of_none}
 -- The first n + 1 numbers of a list are the nodes of a walk from a node in S along edges of E to a node, each as far as its place says.
 pub record ShortestWalk (S : ℕ → Bool) (E : ℕ → ℕ → Bool) (distance : ℕ → Option ℕ) (to n : ℕ) (nodes : List ℕ) : Type 0 where
   pub first : S (slice_index nodes 0) ≡ true
-  pub last : slice_index_or nodes n 0 ≡ to
+  pub last : slice_index nodes n ≡ to
   pub node : (k : ℕ) → k ≤ n → slice_index nodes k < 160
   pub far : (k : ℕ) → k ≤ n → distance (slice_index nodes k) ≡ Some k
   pub edge : (k : ℕ) → k < n → E (slice_index nodes k) (slice_index nodes (k + 1)) ≡ true

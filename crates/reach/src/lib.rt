@@ -1,4 +1,6 @@
 //! Breadth-first search over at most 160 nodes.
+#![tactic(auto)]
+
 ghost use Rattle.reach.specs.TrailLaws.{ShortestWalks};
 
 pub mod graph;

@@ -20,7 +20,9 @@ struct Search {
 impl Search {
     // Finds a node, at a distance and by an edge from another node.
     fn find(&mut self, v: usize, dist: u8, parent: usize)
-        requires { (v < 160) × ((parent < 160) × (self.old.count < 160)) }
+        requires node { v < 160 }
+        requires before { parent < 160 }
+        requires room { self.old.count < 160 }
         ensures { self.new ≡ finding self.old v dist parent }
     {
         self.dist[v] = dist;
@@ -50,8 +52,9 @@ fn start(from: &[bool; NODES]) -> Search
 
 // Finds each node that an edge leads to from the node at a place of the queue, and that was not found.
 fn expand<G: Graph>(graph: &G, place: usize, search: &mut Search)
-    requires { (place < search.old.count) × (Queue (edge graph.now) place 0 search.old) }
-    ensures queue { Queue (edge graph.now) (place + 1) 0 search.new }
+    requires place { place < search.old.count }
+    requires queue { Queue (G.edge graph.now) place 0 search.old }
+    ensures queue { Queue (G.edge graph.now) (place + 1) 0 search.new }
     ensures sources { SameSources search.old search.new }
 {
     let u = search.queue[place] as usize;
@@ -65,7 +68,7 @@ fn expand<G: Graph>(graph: &G, place: usize, search: &mut Search)
 
 // Searches the nodes that walks from the nodes in `from` lead to.
 pub fn explore<G: Graph>(graph: &G, from: &[bool; NODES]) -> Reach
-    ensures { Found (among from.now) (edge graph.now) (distance_of result) (parent_of result) }
+    ensures { Found (among from.now) (G.edge graph.now) (distance_of result) (parent_of result) }
 {
     let mut search = start(from);
     let mut place = 0;

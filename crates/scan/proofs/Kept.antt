@@ -1,6 +1,6 @@
 -- What is not hidden is in the tokens, and nothing else is.
-use Rattle.std.proofs.Common.{◌≡◌, ℕ, ◌+◌, ◌-◌, ◌<◌, ◌≤◌, Bool, true, false, eqb, List, [], ◌∷◌, length, get_or, drop, sym, refl, ap, ◌∙◌, subst, ⊎_elim, arith}
-use Rattle.std.specs.List.{ContainsAt as Has, AllByRecursion as All}
+use Rattle.std.proofs.Common.{◌≡◌, ℕ, ◌+◌, ◌<◌, ◌≤◌, Bool, true, false, eqb, List, [], ◌∷◌, length, get_or, drop, sym, refl, ap, ◌∙◌, subst, ⊎_elim, arith}
+use Rattle.std.specs.List.{ContainsAt as Has, AllByRecursion}
 use Rattle.std.proofs.ByRecursion.{has_append_left, has_append_right, has_push}
 use Rattle.std.proofs.lemmas.List.{get_or-drop, length-drop}
 use Rattle.std.proofs.lemmas.Bool.{true≢false, both_ways, cases_Bool, cases_eq, cases_lt, cond-true, cond-false, eqb-true, eq-eqb, ne_eqb}
@@ -165,11 +165,11 @@ words_kept text m p (b ∷ bs) left told q a in' c w =
     ]) refl))
     (cases_eq p q)
 
-seen_from : (text : List ℕ) (m : Mode) (p : ℕ) (bs : List ℕ) → drop p text ≡ bs → Tells text m p bs → All (Seen text) (lex m p bs)
+seen_from : (text : List ℕ) (m : Mode) (p : ℕ) (bs : List ℕ) → drop p text ≡ bs → Tells text m p bs → AllByRecursion (Seen text) (lex m p bs)
 seen_from text m p [] left told = rw (lex-nil m p) (tt, tt)
 seen_from text m p (b ∷ bs) left told =
     let rest = rest_at text p b bs left in
-    let Shown : Deed → Type 0 = λ d. deed m (class_at b bs) ≡ d → All (Seen text) (lex_by d p b bs) in
+    let Shown : Deed → Type 0 = λ d. deed m (class_at b bs) ≡ d → AllByRecursion (Seen text) (lex_by d p b bs) in
     rw (lex-cons m p b bs)
     ((elim (deed m (class_at b bs)) as Shown [
       | pass n ↦ λ e. seen_from text n (p + 1) bs rest (tells_next text m p b bs left told (pass n) e)

@@ -1,6 +1,6 @@
 -- A text is read line by line.
 use Rattle.std.proofs.Common.{◌≡◌, ℕ, ◌+◌, true, false, eqb, List, [], ◌∷◌, ◌++◌, length, sym, refl, ap, ◌∙◌, subst, ⊎_elim, zero-add, arith}
-use Rattle.std.specs.List.{AllByRecursion as All}
+use Rattle.std.specs.List.{AllByRecursion}
 use Rattle.std.proofs.lemmas.Bool.{true≢false, cases_Bool, eqb-true}
 use Rattle.scan.specs.declared.step.Mode.{Mode}
 use Rattle.scan.specs.declared.step.Mode.TheVariants as mode
@@ -65,7 +65,7 @@ run_at_feed (c ∷ u) v =
     (cases_Bool (word_byte c))
 
 abbrev AllClean : List Piece → Type 0
-AllClean ts = All (λ t. is_stray t ≡ false) ts
+AllClean ts = AllByRecursion (λ t. is_stray t ≡ false) ts
 
 -- a backslash at the end is stray, unless a comment hides it
 clean_back : (m : Mode) (p : ℕ) → AllClean (lex m p (92 ∷ [])) → deed m (class_of 92 true) ≡ deed m (class_of 92 false)

@@ -1,6 +1,6 @@
 -- What each mark stands for.
-use Rattle.std.proofs.Common.{◌≡◌, ℕ, ◌+◌, ◌-◌, ◌≤◌, Bool, true, List, [], ◌∷◌, length, get_or, drop, sym, refl, ap, ◌∙◌, arith}
-use Rattle.std.specs.List.{AllByRecursion as All}
+use Rattle.std.proofs.Common.{◌≡◌, ℕ, ◌+◌, ◌≤◌, Bool, true, List, [], ◌∷◌, length, get_or, drop, sym, refl, ap, ◌∙◌, arith}
+use Rattle.std.specs.List.{AllByRecursion}
 use Rattle.std.proofs.lemmas.List.{get_or-drop, length-drop}
 use Rattle.std.proofs.lemmas.Bool.{eq-eqb}
 use Rattle.scan.specs.declared.step.Class.{Class}
@@ -68,14 +68,14 @@ module _ (text : List ℕ) (p b : ℕ) (bs : List ℕ) (left : drop p text ≡ b
   mark_at m mark.Last e = absurd (no_byte_last m (class_at b bs) e)
   mark_at m mark.Stray e = stray_at m e
 
-marks_from : (text : List ℕ) (m : Mode) (p : ℕ) (bs : List ℕ) → p ≤ length text → drop p text ≡ bs → All (StandsIfMark text) (lex m p bs)
+marks_from : (text : List ℕ) (m : Mode) (p : ℕ) (bs : List ℕ) → p ≤ length text → drop p text ≡ bs → AllByRecursion (StandsIfMark text) (lex m p bs)
 marks_from text m p [] low left =
     let end : p ≡ length text = omega (arith, sym (length-drop p text) ∙ ap length left) in
     rw (lex-nil m p) (end, tt)
 marks_from text m p (b ∷ bs) low left =
     let rest = rest_at text p b bs left in
     let next : p + 1 ≤ length text = omega (arith, within_text text p b bs left) in
-    let Marks : Deed → Type 0 = λ d. deed m (class_at b bs) ≡ d → All (StandsIfMark text) (lex_by d p b bs) in
+    let Marks : Deed → Type 0 = λ d. deed m (class_at b bs) ≡ d → AllByRecursion (StandsIfMark text) (lex_by d p b bs) in
     rw (lex-cons m p b bs)
     ((elim (deed m (class_at b bs)) as Marks [
       | pass n ↦ λ e. marks_from text n (p + 1) bs next rest

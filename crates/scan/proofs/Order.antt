@@ -1,6 +1,6 @@
 -- The order of the tokens.
 use Rattle.std.proofs.Common.{◌≡◌, ℕ, ◌+◌, ◌<◌, ◌≤◌, false, List, [], ◌∷◌, ◌++◌, length, sym, refl, ap, ◌∙◌, zero-add, arith}
-use Rattle.std.specs.List.{AllByRecursion as All}
+use Rattle.std.specs.List.{AllByRecursion}
 use Rattle.std.proofs.ByRecursion.{All-weaker}
 use Rattle.scan.specs.declared.step.Class.{Class}
 use Rattle.scan.specs.declared.step.Mode.{Mode}
@@ -41,11 +41,11 @@ pub record Inner (end : ℕ) (t : Piece) : Type 0 where
   pub more : is_last t ≡ false
   pub within : offset t < end
 
-pub inner_front : (m : Mode) (p : ℕ) (bs : List ℕ) → All (Inner (p + length bs)) (front (lex m p bs))
+pub inner_front : (m : Mode) (p : ℕ) (bs : List ℕ) → AllByRecursion (Inner (p + length bs)) (front (lex m p bs))
 inner_front m p [] = rw (lex-nil m p) tt
 inner_front m p (b ∷ bs) =
     let on : p + 1 + length bs ≡ p + length (b ∷ bs) = omega arith in
-    let Front : Deed → Type 0 = λ d. deed m (class_at b bs) ≡ d → All (Inner (p + 1 + length bs)) (front (lex_by d p b bs)) in
+    let Front : Deed → Type 0 = λ d. deed m (class_at b bs) ≡ d → AllByRecursion (Inner (p + 1 + length bs)) (front (lex_by d p b bs)) in
     rw (← on, lex-cons m p b bs)
     ((elim (deed m (class_at b bs)) as Front [
       | pass n ↦ λ e. inner_front n (p + 1) bs
@@ -70,7 +70,7 @@ ends_with_last m p (b ∷ bs) =
 pub tokens_are_in_order : TokensAreInOrder
 tokens_are_in_order text =
     let whole = zero-add (length text) in
-    let inner : All (Inner (length text)) (front (tokens_of text)) = rw whole at (inner_front mode.Blank 0 text) in
+    let inner : AllByRecursion (Inner (length text)) (front (tokens_of text)) = rw whole at (inner_front mode.Blank 0 text) in
     record {
       rising = rising_from mode.Blank 0 text;
       ends = ends_with_last mode.Blank 0 text ∙ ap (λ n. front (tokens_of text) ++ at n (sign mark.Last) ∷ []) whole;

@@ -1,6 +1,6 @@
 -- Words are longest runs.
 use Rattle.std.proofs.Common.{◌≡◌, ℕ, ◌+◌, true, false, List, [], ◌∷◌, length, get_or, take, drop, sym, refl, ap, ◌∙◌, subst, ⊎_elim, arith}
-use Rattle.std.specs.List.{AllByRecursion as All}
+use Rattle.std.specs.List.{AllByRecursion}
 use Rattle.std.proofs.lemmas.List.{get_or-drop}
 use Rattle.std.proofs.lemmas.Bool.{cases_Bool}
 use Rattle.scan.specs.declared.step.Mode.{Mode}
@@ -22,10 +22,10 @@ run_here (b ∷ bs) =
     (λ e. ap (λ r. take (length r) (b ∷ bs)) (run_ends b bs e) ∙ sym (run_ends b bs e))
     (cases_Bool (word_byte b))
 
-run_bytes : (bs : List ℕ) → All (λ b. word_byte b ≡ true) (run bs)
+run_bytes : (bs : List ℕ) → AllByRecursion (λ b. word_byte b ≡ true) (run bs)
 run_bytes [] = tt
 run_bytes (b ∷ bs) =
-    let Bytes : List ℕ → Type 0 = λ r. All (λ b. word_byte b ≡ true) r in
+    let Bytes : List ℕ → Type 0 = λ r. AllByRecursion (λ b. word_byte b ≡ true) r in
     ⊎_elim
     (λ e. subst Bytes (sym (run_more b bs e)) (e, run_bytes bs))
     (λ e. subst Bytes (sym (run_ends b bs e)) tt)
@@ -74,12 +74,12 @@ longest text p b bs left none w =
       behind = λ _. ap word_byte (sym (get_or-drop p text (length (b ∷ run bs)) 0) ∙ ap (λ l. get_or l (length (b ∷ run bs)) 0) left) ∙ run_stops bs;
     }
 
-runs_from : (text : List ℕ) (m : Mode) (p : ℕ) (bs : List ℕ) → drop p text ≡ bs → Around m text p bs → All (RunIfWord text) (lex m p bs)
+runs_from : (text : List ℕ) (m : Mode) (p : ℕ) (bs : List ℕ) → drop p text ≡ bs → Around m text p bs → AllByRecursion (RunIfWord text) (lex m p bs)
 runs_from text m p [] left a = rw (lex-nil m p) (tt, tt)
 runs_from text m p (b ∷ bs) left a =
     let is = byte_at text p b bs left in
     let rest = rest_at text p b bs left in
-    let Runs : Deed → Type 0 = λ d. deed m (class_at b bs) ≡ d → All (RunIfWord text) (lex_by d p b bs) in
+    let Runs : Deed → Type 0 = λ d. deed m (class_at b bs) ≡ d → AllByRecursion (RunIfWord text) (lex_by d p b bs) in
     rw (lex-cons m p b bs)
     ((elim (deed m (class_at b bs)) as Runs [
       | pass n ↦ λ e. runs_from text n (p + 1) bs rest (around_next text m n p b bs is a e)

@@ -1,6 +1,6 @@
 -- What of a text is hidden by comments and continuations, and that all else is in the tokens.
-use Rattle.std.specs.Prelude.{◌≡◌, ℕ, ◌+◌, ◌<◌, ◌≤◌, Bool, true, false, cond, List, length, take, fold, ◌==◌, slice_index}
-use Rattle.std.specs.List.{ContainsAt as Has, AllByRecursion as All}
+use Rattle.std.specs.Prelude.{◌≡◌, ℕ, ◌+◌, ◌<◌, ◌≤◌, Bool, true, false, if◌then◌else◌, List, length, take, fold, ◌==◌, slice_index}
+use Rattle.std.specs.List.{ContainsAt as Has, AllByRecursion}
 use Rattle.scan.specs.declared.token.Mark.TheVariants as mark
 use Rattle.scan.specs.Bytes.{word_byte}
 use Rattle.scan.specs.Tokens.{Piece}
@@ -11,7 +11,7 @@ use Rattle.scan.specs.Marks.{StrayAt}
 
 -- a comment goes on behind the byte: it is `#`, or one went on before it, and it is no line feed
 abbrev pub hidden_behind : Bool → ℕ → Bool
-hidden_behind before b = cond (b == 10) false (cond (b == 35) true before)
+hidden_behind before b = if b == 10 then false else (if b == 35 then true else before)
 
 -- the place is in a comment: `#` stands before it, with no line feed between
 abbrev pub commented : List ℕ → ℕ → Bool
@@ -51,4 +51,4 @@ Seen text (at p (sign mark.Last)) = Unit {0}
 Seen text (at p (sign mark.Stray)) = commented text p ≡ false
 
 abbrev pub NothingHiddenIsSeen : Type 0
-NothingHiddenIsSeen = (text : List ℕ) → All (Seen text) (tokens_of text)
+NothingHiddenIsSeen = (text : List ℕ) → AllByRecursion (Seen text) (tokens_of text)

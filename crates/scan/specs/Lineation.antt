@@ -1,6 +1,6 @@
 -- A text is read line by line.
 use Rattle.std.specs.Prelude.{◌≡◌, ℕ, ◌+◌, false, List, [], ◌∷◌, ◌++◌, length}
-use Rattle.std.specs.List.{AllByRecursion as All}
+use Rattle.std.specs.List.{AllByRecursion}
 use Rattle.scan.specs.declared.step.Mode.{Mode}
 use Rattle.scan.specs.declared.step.Mode.TheVariants as mode
 use Rattle.scan.specs.declared.token.Mark.TheVariants as mark
@@ -22,7 +22,7 @@ LinesAreReadOneByOne = (m : Mode) (p : ℕ) (u v : List ℕ) → lex m p (u ++ 1
 
 -- no byte of the text is stray
 abbrev pub Clean : List ℕ → Type 0
-Clean text = All (λ t. is_stray t ≡ false) (tokens_of text)
+Clean text = AllByRecursion (λ t. is_stray t ≡ false) (tokens_of text)
 
 -- The tokens of two texts with a line feed between them are those of the one, with the end of a line in place of the
 -- last, and then those of the other. The first must be clean: a backslash at its end would take the line feed away.

@@ -1,6 +1,6 @@
 -- What each mark stands for.
-use Rattle.std.specs.Prelude.{◌≡◌, ℕ, ◌+◌, ◌<◌, false, List, length, ◌≢◌, slice_index, slice_index_or}
-use Rattle.std.specs.List.{AllByRecursion as All}
+use Rattle.std.specs.Prelude.{◌≡◌, ℕ, ◌+◌, ◌<◌, false, List, length, ◌≢◌, slice_index}
+use Rattle.std.specs.List.{AllByRecursion}
 use Rattle.scan.specs.declared.token.Mark.{Mark}
 use Rattle.scan.specs.declared.token.Mark.TheVariants as mark
 use Rattle.scan.specs.Bytes.{word_byte}
@@ -14,13 +14,13 @@ use Rattle.scan.specs.Lex.{tokens_of}
 pub record StrayAt (text : List ℕ) (p : ℕ) : Type 0 where
   pub within : p < length text
   pub unworded : word_byte (slice_index text p) ≡ false
-  pub unopen : slice_index_or text p 0 ≡ 40 → ⊥
-  pub unclose : slice_index_or text p 0 ≡ 41 → ⊥
-  pub unhash : slice_index_or text p 0 ≡ 35 → ⊥
-  pub unfeed : slice_index_or text p 0 ≡ 10 → ⊥
-  pub unspace : slice_index_or text p 0 ≡ 32 → ⊥
-  pub untab : slice_index_or text p 0 ≡ 9 → ⊥
-  pub unjoined : slice_index_or text p 0 ≡ 92 → slice_index text (p + 1) ≢ 10
+  pub unopen : slice_index text p ≢ 40
+  pub unclose : slice_index text p ≢ 41
+  pub unhash : slice_index text p ≢ 35
+  pub unfeed : slice_index text p ≢ 10
+  pub unspace : slice_index text p ≢ 32
+  pub untab : slice_index text p ≢ 9
+  pub unjoined : slice_index text p ≡ 92 → slice_index text (p + 1) ≢ 10
 
 abbrev pub MarkAt : List ℕ → ℕ → Mark → Type 0
 MarkAt text p mark.Open = slice_index text p ≡ 40
@@ -34,4 +34,4 @@ StandsIfMark text (at p (word w)) = Unit {0}
 StandsIfMark text (at p (sign g)) = MarkAt text p g
 
 abbrev pub MarksStandForBytes : Type 0
-MarksStandForBytes = (text : List ℕ) → All (StandsIfMark text) (tokens_of text)
+MarksStandForBytes = (text : List ℕ) → AllByRecursion (StandsIfMark text) (tokens_of text)

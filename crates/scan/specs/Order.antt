@@ -1,6 +1,6 @@
 -- The order of the tokens.
 use Rattle.std.specs.Prelude.{◌≡◌, ℕ, ◌+◌, ◌<◌, ◌≤◌, false, List, [], ◌∷◌, ◌++◌, length}
-use Rattle.std.specs.List.{AllByRecursion as All}
+use Rattle.std.specs.List.{AllByRecursion}
 use Rattle.scan.specs.declared.token.Mark.TheVariants as mark
 use Rattle.scan.specs.Tokens.{Piece, is_last, offset}
 use Rattle.scan.specs.Tokens.Piece.{at}
@@ -17,8 +17,8 @@ Rising low (t ∷ ts) = (low ≤ offset t) × Rising (offset t + 1) ts
 pub record InOrder (text : List ℕ) : Type 0 where
   pub rising : Rising 0 (tokens_of text)
   pub ends : tokens_of text ≡ front (tokens_of text) ++ at (length text) (sign mark.Last) ∷ []
-  pub once : All (λ t. is_last t ≡ false) (front (tokens_of text))
-  pub within : All (λ t. offset t < length text) (front (tokens_of text))
+  pub once : AllByRecursion (λ t. is_last t ≡ false) (front (tokens_of text))
+  pub within : AllByRecursion (λ t. offset t < length text) (front (tokens_of text))
 
 abbrev pub TokensAreInOrder : Type 0
 TokensAreInOrder = (text : List ℕ) → InOrder text

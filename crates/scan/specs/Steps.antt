@@ -1,5 +1,5 @@
 -- What a byte does to a scanner, by the mode that the scanner is in.
-use Rattle.std.specs.Prelude.{Bool, true, false, cond, not}
+use Rattle.std.specs.Prelude.{Bool, true, false, if◌then◌else◌, not}
 use Rattle.scan.specs.declared.step.Class.{Class}
 use Rattle.scan.specs.declared.step.Class.TheVariants as class
 use Rattle.scan.specs.declared.step.Mode.{Mode}
@@ -68,4 +68,4 @@ as_step (give g) = step.Give g
 
 -- the same for a scanner that gives a word where it ends: it stops before the byte that cuts the word
 abbrev pub step_of : Mode → Class → Step
-step_of m k = cond (cuts m k) step.Cut (as_step (deed m k))
+step_of m k = if cuts m k then step.Cut else as_step (deed m k)

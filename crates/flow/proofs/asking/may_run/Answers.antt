@@ -6,6 +6,6 @@ use Rattle.flow.proofs.asking.may_run.Goals as goal
 
 pub returns : goal.returns
 returns c =
-    c.is-ok.ensures.value
+    c.is_ok.ensures.value
     ∙ ap is_ok c.decide.ensures
     ∙ answer-allowed c.args.policy.now.policy running c.args.d c.args.o _ (asks.runs c.args.policy.now.policy c.args.d c.args.o)

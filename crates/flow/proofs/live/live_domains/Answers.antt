@@ -11,8 +11,8 @@ use Rattle.flow.proofs.live.live_domains.Goals as goal
 pub loop-d-preserved : goal.loop-d-preserved
 loop-d-preserved c = (
   rw length-set c.loop-d.invariant.0,
-  filled (λ k b. b ≡ is_some (distance_of c.explore-reached.result (128 + k))) (λ k. k) (λ i j q. q) c.loop-d.live c.loop-d.d c.is-some.result false
-      (omega (arith, c.loop-d.invariant.0, c.loop-d-test.true)) c.loop-d.invariant.1 (c.is-some.ensures ∙ ap is_some c.distance.ensures),
+  filled (λ k b. b ≡ is_some (distance_of c.explore-reached.result (128 + k))) (λ k. k) (λ i j q. q) c.loop-d.live c.loop-d.d c.is_some.result false
+      (omega (arith, c.loop-d.invariant.0, c.loop-d-test.true)) c.loop-d.invariant.1 (c.is_some.ensures ∙ ap is_some c.distance.ensures),
 )
 
 pub returns : goal.returns

@@ -1,4 +1,3 @@
-use Rattle.std.proofs.Common.{◌≡◌, length}
 use Rattle.policy.specs.Abstract.{asked}
 use Rattle.flow.specs.Passages.{PassagesOf}
 use Rattle.flow.proofs.passages.passages_of.Given as goal

@@ -16,9 +16,9 @@ returns-then-live-u c =
     let p = c.args.policy.now.policy in
     let u = c.args.u in
     let same : 128 + (u - 128) ≡ u = omega (arith, c.if-u-lt128.false) in
-    live_row_at (asked p) c.args.live.now c.requires.alive (domains_few p) u (row_at c.args.passages.now u) c.add-changes.new.row (objects_few p) c.if-u-lt128.false c.if-live-u.true
+    live_row_at (asked p) c.args.live.now c.requires.alive (domains_few p) u (row_at c.args.passages.now u) c.add_changes.new.row (objects_few p) c.if-u-lt128.false c.if-live-u.true
     (subst (λ (k : ℕ). PassagesOf (asked p) (u - 128) 128 (row_at c.args.passages.now k)) same (c.requires.passing (u - 128) (omega (arith, c.requires.node, c.if-u-lt128.false))))
-    c.add-changes.ensures
+    c.add_changes.ensures
 
 pub returns : goal.returns
 returns c =

@@ -4,16 +4,13 @@ use Rattle.reach.proofs.search.expand.Goals as goal
 use Rattle.reach.proofs.search.expand.Goals.{then-search-v+then-linked, else-search-v, else-search-v-via-then-search-v+else-linked, else-search-v-via-else-search-v}
 
 pub loop-v-init : goal.loop-v-init
-loop-v-init g c = record { queue = c.requires.1; place = c.requires.0; node = refl; far = refl; sources = λ v h. refl }
+loop-v-init g c = record { queue = c.requires.queue; place = c.requires.place; node = refl; far = refl; sources = λ v h. refl }
 
 pub find-requires : goal.find-requires
-find-requires g c = (
-  c.loop-v-test.true,
-  (
-    c.requires.1.node c.args.place c.requires.0,
-    expanding_has_room _ _ _ _ _ _ _ c.loop-v.invariant c.loop-v-test.true c.if-search-v.true (sym c.if-linked.ensures),
-  ),
-)
+find-requires g c =
+    let from = c.requires.queue.node c.args.place c.requires.place in
+    let room = expanding_has_room _ _ _ _ _ _ _ c.loop-v.invariant c.loop-v-test.true c.if-search-v.true (sym c.if-linked.ensures) in
+    record { node = omega arith; before = omega arith; room = room }
 
 pub loop-v-preserved : goal.loop-v-preserved
 loop-v-preserved g c =

@@ -9,11 +9,11 @@ loop-place-init g c = (started_all _ _ c.start-search.ensures _, started_sources
 pub loop-place-preserved : goal.loop-place-preserved
 loop-place-preserved g c = (c.expand.ensures.queue, λ v h. c.expand.ensures.sources v h ∙ c.loop-place.invariant.1 v h)
 
-pub invariant-of-result : goal.invariant-of-result
-invariant-of-result g c = (
-  complete_is_short _ _ _ _ c.loop-place.invariant.0 c.loop-place-test.false c.loop-place.invariant.1,
-  (complete_is_rooted _ _ _ _ c.loop-place.invariant.0 c.loop-place-test.false c.loop-place.invariant.1, tt),
-)
+pub invariant_of-result : goal.invariant_of-result
+invariant_of-result g c = record {
+  short = complete_is_short _ _ _ _ c.loop-place.invariant.0 c.loop-place-test.false c.loop-place.invariant.1;
+  rooted = complete_is_rooted _ _ _ _ c.loop-place.invariant.0 c.loop-place-test.false c.loop-place.invariant.1;
+}
 
 pub returns : goal.returns
 returns g c = complete_is_found _ _ _ _ c.loop-place.invariant.0 c.loop-place-test.false c.loop-place.invariant.1 _ refl refl

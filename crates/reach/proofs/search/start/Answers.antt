@@ -8,7 +8,7 @@ pub loop-v-init : goal.loop-v-init
 loop-v-init c = started_none (among c.args.from.now)
 
 pub find-requires : goal.find-requires
-find-requires c = (c.loop-v-test.true, (c.loop-v-test.true, start_has_room _ _ _ c.loop-v.invariant c.loop-v-test.true))
+find-requires c = record { node = c.loop-v-test.true; before = c.loop-v-test.true; room = start_has_room _ _ _ c.loop-v.invariant c.loop-v-test.true }
 
 pub loop-v-preserved : goal.loop-v-preserved
 loop-v-preserved c =

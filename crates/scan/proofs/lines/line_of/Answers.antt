@@ -13,5 +13,5 @@ take_within s p n e =
 
 pub returns : goal.returns
 returns c =
-    let exact = c.count-feeds.ensures.count ∙ ap feeds_in (take_within c.args.text.now c.args.place c.min.result c.min.ensures) in
+    let exact = c.count_feeds.ensures.count ∙ ap feeds_in (take_within c.args.text.now c.args.place c.min.result c.min.ensures) in
     omega arith

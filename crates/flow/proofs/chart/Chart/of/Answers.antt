@@ -10,7 +10,7 @@ pub returns : goal.returns
 returns c =
     let p = c.args.policy.now.policy in
     record {
-      objects = c.object-count.ensures ∙ ap (λ t. length (model t).objects) (c.tables.ensures ∙ ap (λ q. q.tables) c.policy.ensures) ∙ sym (asks.objects p);
+      objects = c.object_count.ensures ∙ ap (λ t. length (model t).objects) (c.tables.ensures ∙ ap (λ q. q.tables) c.policy.ensures) ∙ sym (asks.objects p);
       objects_few = objects_few p;
       domains_few = domains_few p;
       links = λ x y hx hy. c.loop-u.invariant.1 (number x) (omega (arith, number_below x hx, c.loop-u-test.false)) x hx refl y hy;

@@ -1,4 +1,4 @@
-use Rattle.std.proofs.Common.{◌≡◌, ℕ, ◌<◌, ◌≤◌, false, length, get_or}
+use Rattle.std.proofs.Common.{◌≡◌, ℕ, ◌<◌, false, length, get_or}
 use Rattle.machine.specs.Flow.{of_type}
 use Rattle.policy.specs.Abstract.{asked}
 use Rattle.flow.specs.Sets.{within}

@@ -4,31 +4,31 @@ use Rattle.std.proofs.lemmas.Bool.{cond-true, le-leb}
 use Rattle.reach.proofs.SteppingBack.{distance_bounds, stepping_none, stepping_more, stepping_all}
 use Rattle.reach.proofs.table.Reach.trace.Goals as goal
 
-pub overflow-cast-nodes : goal.overflow-cast-nodes
-overflow-cast-nodes c =
-    let node : c.args.to < 160 = (distance_bounds _ _ _ (sym c.in-ok-n.ensures)).0 in
+pub overflow_cast-nodes : goal.overflow_cast-nodes
+overflow_cast-nodes c =
+    let node : c.args.to < 160 = (distance_bounds _ _ _ (sym c.in_ok-n.ensures)).0 in
     search rules
 
 pub bounds-nodes-n : goal.bounds-nodes-n
-bounds-nodes-n c = omega (arith, (distance_bounds _ _ _ (sym c.in-ok-n.ensures)).1)
+bounds-nodes-n c = omega (arith, (distance_bounds _ _ _ (sym c.in_ok-n.ensures)).1)
 
 pub loop-k-init : goal.loop-k-init
 loop-k-init c =
-    let e = sym c.in-ok-n.ensures in
+    let e = sym c.in_ok-n.ensures in
     stepping_none _ _ _ e c.args.nodes.now (omega (arith, (distance_bounds _ _ _ e).1))
 
 pub bounds-nodes-k : goal.bounds-nodes-k
 bounds-nodes-k c =
-    omega (arith, (distance_bounds _ _ _ (sym c.in-ok-n.ensures)).1, simp length-set at c.loop-k.auto.nodes, c.loop-k.auto.k)
+    omega (arith, (distance_bounds _ _ _ (sym c.in_ok-n.ensures)).1, simp length-set at c.loop-k.auto.nodes, c.loop-k.auto.k)
 
 pub bounds-nodes-k-in-loop-k : goal.bounds-nodes-k-in-loop-k
 bounds-nodes-k-in-loop-k c =
-    omega (arith, (distance_bounds _ _ _ (sym c.in-ok-n.ensures)).1, simp length-set at c.loop-k.auto.nodes, c.loop-k.auto.k)
+    omega (arith, (distance_bounds _ _ _ (sym c.in_ok-n.ensures)).1, simp length-set at c.loop-k.auto.nodes, c.loop-k.auto.k)
 
 pub loop-k-preserved : goal.loop-k-preserved
 loop-k-preserved c =
     let e : (c.loop-k.k - 1) + 1 ≡ c.loop-k.k = omega arith in
-    let small = (distance_bounds _ _ _ (sym c.in-ok-n.ensures)).1 in
+    let small = (distance_bounds _ _ _ (sym c.in_ok-n.ensures)).1 in
     let long : length c.loop-k.nodes ≡ length c.args.nodes.now = simp length-set at c.loop-k.auto.nodes in
     stepping_more _ _ _ (c.loop-k.k - 1) _ _ (omega (arith, c.loop-k.auto.k)) small (omega arith) (rw e c.loop-k.invariant)
 
@@ -37,6 +37,6 @@ returns c =
     let done : c.loop-k.k ≡ 0 = omega arith in
     let long : length c.loop-k.nodes ≡ length c.args.nodes.now = simp length-set at c.loop-k.auto.nodes in
     record {
-      answer = c.in-ok-n.ensures ∙ sym (cond-true (leb 160 _) _ _ (le-leb 160 _ c.if-nodes-lt-NODES.false));
+      answer = c.in_ok-n.ensures ∙ sym (cond-true (leb 160 _) _ _ (le-leb 160 _ c.if-nodes-lt-NODES.false));
       nodes = stepping_all _ _ _ _ _ (omega arith) (rw done at c.loop-k.invariant);
     }
