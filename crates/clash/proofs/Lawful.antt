@@ -16,7 +16,7 @@ use Rattle.policy.specs.Lowest.{lowest}
 use Rattle.policy.specs.LowestLaws.{none_passes, none-lowest, is_lowest}
 use Rattle.policy.specs.PassageLaws.{pass-parts, pass_from, pass_to}
 use Rattle.policy.specs.Passages.{leads, runs, pass, target, auto}
-use Rattle.clash.specs.Clashes.{shared_by, shares, clashing, second, first, clashed, pair_from, pair, pair_of, clash}
+use Rattle.clash.specs.Clashes.{shared_by, shares, clashing, second, first, clashed, pair_from, pair_of, clash}
 use Rattle.clash.specs.Laws.{Clash, Clear, LowestClash, Laws}
 use Rattle.clash.proofs.Searches.{no_pair_no_first}
 

@@ -1,4 +1,6 @@
 //! Auto passages of one domain that share an entry path.
+#![tactic(auto)]
+
 ghost use Rattle.std.specs.Prelude.{◌≡◌};
 ghost use Rattle.tables.specs.Model.{model};
 ghost use Rattle.clash.specs.Clashes.{clash};

@@ -1,9 +1,8 @@
 -- Separations, one by one.
-use Rattle.std.proofs.Common.{◌≡◌, ℕ, suc, ◌+◌, ◌<◌, ◌≤◌, Bool, true, false, List, [], ◌∷◌, ◌++◌, length, get_or, take, drop, is_some, Some, None, Option, sym, refl, ap, ◌∙◌, subst, arith}
+use Rattle.std.proofs.Common.{◌≡◌, ℕ, ◌+◌, ◌<◌, ◌≤◌, Bool, true, List, ◌++◌, length, get_or, take, drop, is_some, Some, None, Option, sym, refl, ap, ◌∙◌, subst}
 use Rattle.std.specs.List.{AllByRecursion}
 use Rattle.std.proofs.lemmas.List.{take-append-drop, drop_more, take_all}
-use Rattle.label.specs.declared.numbers.Typ.{Typ}
-use Rattle.machine.specs.Flow.{of_type, Chain, NoChain, Shortest}
+use Rattle.machine.specs.Flow.{of_type}
 use Rattle.machine.specs.Policy.{Policy as Asked}
 use Rattle.tables.specs.declared.table.Apart.{Apart}
 use Rattle.flow.specs.declared.objects.Objects.{Objects}

@@ -1,5 +1,5 @@
 -- The verdict on tables is the verdict on the policy that they are.
-use Rattle.std.proofs.Common.{◌≡◌, true, List, None, sym, refl, ap, ◌∙◌, subst}
+use Rattle.std.proofs.Common.{◌≡◌, true, None, ap, ◌∙◌, subst}
 use Rattle.std.specs.List.{AllByRecursion}
 use Rattle.label.specs.declared.numbers.Typ.{Typ}
 use Rattle.tables.specs.Model.{Model}

@@ -2,7 +2,7 @@
 ghost use Rattle.std.specs.Prelude.{◌≡◌, ◌≤◌};
 ghost use Rattle.std.specs.Option.{option_map};
 ghost use Rattle.reader.specs.Composed.{composed};
-ghost use Rattle.reader.specs.Reading.{read as readAfter, tables};
+ghost use Rattle.reader.specs.Reading.{read as reading_after, tables};
 ghost use Rattle.reader.specs.Stops.{Reads as ReadsText};
 ghost use Rattle.draft.specs.Composing.{tabled, outcome, Composes, Reads, located, unread};
 ghost use Rattle.draft.specs.Drafts.{base as base_of};
@@ -44,7 +44,7 @@ fn leave_unread(kept: usize) -> Fault
 
 // What the text comes to after what was kept.
 fn read_after(heap: Global, base: &Option<Composed>, text: &[u8]) -> Result<Composition, Halt>
-    ensures { ReadsText (readAfter (base_of (option_map tabled base.now)) text.now) result }
+    ensures { ReadsText (reading_after (base_of (option_map tabled base.now)) text.now) result }
 {
     match base {
         Some(composed) => read(
@@ -79,7 +79,7 @@ fn take_in(
     text: &[u8],
 ) -> Result<Composed, Failure>
     requires { kept ≤ 8 }
-    ensures { Reads kept text.now (readAfter (base_of (option_map tabled base.now)) text.now) (outcome result) }
+    ensures { Reads kept text.now (reading_after (base_of (option_map tabled base.now)) text.now) (outcome result) }
 {
     match read_after(heap, base, text) {
         Ok(composition) => finish(kept, text, composition),

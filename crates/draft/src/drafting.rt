@@ -5,7 +5,7 @@ ghost use Rattle.flow.specs.Charts.{Charts};
 ghost use Rattle.policy.specs.Abstract.{asked};
 ghost use Rattle.policy.specs.Holds.{model_of};
 ghost use Rattle.draft.specs.Composing.{tabled};
-ghost use Rattle.draft.specs.Drafts.{view, blank as unopened, base, Opens, Tries, kept as keptOf, withdrawn};
+ghost use Rattle.draft.specs.Drafts.{view, blank as unopened, base, Opens, Tries, kept as kept_of, withdrawn};
 ghost use Rattle.draft.specs.Endings.{Settled};
 
 use crate::composing::compose;
@@ -79,7 +79,7 @@ impl Draft {
     // Keeps the module on trial.
     pub fn keep(&mut self, trial: Trial) -> Rest
         requires { self.old.phase ≡ Phase.Trial }
-        ensures { view self.new ≡ keptOf (view self.old) }
+        ensures { view self.new ≡ kept_of (view self.old) }
     {
         trial.spend();
         self.kept = self.tried.take();

@@ -1,4 +1,6 @@
 //! Drafts: modules are tried one by one, kept or withdrawn, and what they come to is sealed.
+#![tactic(auto)]
+
 pub mod aparts;
 pub mod composing;
 pub mod draft;

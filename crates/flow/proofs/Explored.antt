@@ -5,7 +5,7 @@ use Rattle.std.proofs.lemmas.Bool.{true≢false, cases_lt, and_parts, and_from, 
 use Rattle.machine.specs.Flow.{Node, obj, dom, number, Link, learns, passes, alters, Walk, here, on, trail, Chain, NoChain, Objects as Set}
 use Rattle.machine.specs.Policy.{Policy as Asked}
 use Rattle.reach.specs.Distances.{distance_of, parent_of}
-use Rattle.reach.specs.Trails.{trail as nodesTo}
+use Rattle.reach.specs.Trails.{trail as nodes_to}
 use Rattle.reach.specs.Walks.{Walk as Steps, here as begun, on as stepped, Found, walk_to_node, walk_of_none}
 use Rattle.flow.specs.declared.chart.Chart.{Chart}
 use Rattle.flow.specs.Charts.{Numbered, Charts}
@@ -64,8 +64,8 @@ module _ (P : Asked) (chart : Chart) (charts : Charts P chart) (From : Set) (S :
         (ltb-true v P.objects a.0, a.1)
 
     -- a way back in the table is a walk of the policy
-    walked : (n : ℕ) (x : Node) → Numbered x → distance (number x) ≡ Some n → WalkBy P From n x (nodesTo parent n (number x))
-    unfolding nodesTo
+    walked : (n : ℕ) (x : Node) → Numbered x → distance (number x) ≡ Some n → WalkBy P From n x (nodes_to parent n (number x))
+    unfolding nodes_to
     walked zero (obj o) h e =
         let s = source_is o (walk_of_none (f.walk o 0 e)) in
         record { from = o; from_is = s.0; from_in = s.1; walk = here; nodes_are = refl }
@@ -82,7 +82,7 @@ module _ (P : Asked) (chart : Chart) (charts : Charts P chart) (From : Set) (S :
           walk = on r.walk ((charts.links y.node x y.numbered h).0 (ap (λ (k : ℕ). linked chart.links k v) y.number_is ∙ f.edge v n e));
           nodes_are =
               map_push number (trail r.walk) x
-              ∙ ap (λ (l : List ℕ). l ++ v ∷ []) (r.nodes_are ∙ ap (λ (k : ℕ). nodesTo parent n k) y.number_is);
+              ∙ ap (λ (l : List ℕ). l ++ v ∷ []) (r.nodes_are ∙ ap (λ (k : ℕ). nodes_to parent n k) y.number_is);
         }
 
     -- where a walk ends at an object, it is one of the policy's

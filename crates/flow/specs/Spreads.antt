@@ -3,7 +3,7 @@ use Rattle.std.specs.Prelude.{◌≡◌, ℕ, ◌<◌, ◌≤◌, map, Some, Non
 use Rattle.machine.specs.Flow.{number, trail, NoChain, Shortest, Objects as Set}
 use Rattle.machine.specs.Policy.{Policy as Asked}
 use Rattle.reach.specs.Distances.{distance_of, parent_of}
-use Rattle.reach.specs.Trails.{trail as nodesTo}
+use Rattle.reach.specs.Trails.{trail as nodes_to}
 use Rattle.flow.specs.declared.spread.Spread.{Spread}
 
 -- the set of one object
@@ -13,7 +13,7 @@ only o i = i == o
 -- a shortest chain to the object, over the nodes that the spread leads back by
 pub record Held (P : Asked) (From : Set) (spread : Spread) (o n : ℕ) : Type 0 where
   pub shortest : Shortest P From (only o) n
-  pub nodes : map number (trail shortest.chain.walk) ≡ nodesTo (parent_of spread.reach) n o
+  pub nodes : map number (trail shortest.chain.walk) ≡ nodes_to (parent_of spread.reach) n o
 
 -- by the distance of the object, if it has one
 abbrev pub HeldAt : Asked → Set → Spread → ℕ → Option ℕ → Type 0

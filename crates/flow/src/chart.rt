@@ -1,6 +1,6 @@
 //! Which nodes are linked. Objects are the nodes 0 to 127, and the domain d is the node 128 + d.
 ghost use Rattle.std.specs.Prelude.{◌≡◌};
-ghost use Rattle.flow.specs.Rows.{leads as leadsTo, linked as linkedIn};
+ghost use Rattle.flow.specs.Rows.{leads as leads_to, linked as linked_in};
 
 use reach::graph::Graph;
 
@@ -22,14 +22,14 @@ pub struct Chart {
 impl Row {
     // Whether the row leads to the node.
     pub(crate) fn leads(&self, v: usize) -> bool
-        ensures { result ≡ leadsTo self.now v }
+        ensures { result ≡ leads_to self.now v }
     {
         v < 160 && self.0[v]
     }
 }
 
 impl Graph for Links {
-    ghost edge = { linkedIn };
+    ghost edge = { linked_in };
 
     fn linked(&self, u: usize, v: usize) -> bool {
         match self.0.get(u) {

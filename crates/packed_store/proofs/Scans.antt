@@ -1,6 +1,6 @@
 -- How a scan of the records goes on, and what is written where it ends.
-use Rattle.std.proofs.Common.{◌≡◌, ℕ, suc, ◌+◌, ◌-◌, ◌*◌, ◌/◌, ◌<◌, ◌≤◌, min, Bool, true, false, cond, eqb, leb, List, [], ◌∷◌, ◌++◌, length, get_or, take, drop, set, replicate, Some, None, Option, sym, refl, ap, ◌∙◌, add-zero, add-one, arith, lit≤, length-append, length-drop, length-set, length-take, drop-cons, take-suc, take-take, drop-drop, take-add}
-use lib.Seq.{set_split, paste, length-paste, drop-set-add, take-set-le, take-append-le}
+use Rattle.std.proofs.Common.{◌≡◌, ℕ, suc, ◌+◌, ◌-◌, ◌/◌, ◌<◌, ◌≤◌, min, true, eqb, List, [], ◌∷◌, ◌++◌, length, get_or, take, drop, set, replicate, Some, None, Option, sym, refl, ap, ◌∙◌, add-zero, add-one, arith, lit≤, length-append, length-drop, length-set, length-take, drop-cons, take-suc, take-take, drop-drop, take-add}
+use Rattle.std.proofs.Math.Seq.{set_split, paste, length-paste, drop-set-add, take-set-le, take-append-le}
 use Rattle.std.proofs.lemmas.List.{append-nil, append_assoc, take-append-drop, drop_at, take_all, drop_all, length-take-le, set-append_right, drop_more, take_more_set, drop-set-lt}
 use Rattle.std.proofs.lemmas.Bool.{eq-eqb, ne_eqb, le-leb, lt-leb, cond-true, cond-false, cond_both}
 use Rattle.std.proofs.lemmas.Slice.{between_is}

@@ -1,15 +1,16 @@
 -- Tables and the bytes that hold them.
-use Rattle.std.proofs.Common.{◌≡◌, ℕ, zero, suc, ◌+◌, ◌*◌, ◌/◌, ◌<◌, ◌≤◌, min, Bool, true, false, cond, eqb, ltb, leb, List, [], ◌∷◌, ◌++◌, length, get_or, take, drop, set, replicate, Some, None, Option, sym, refl, ap, ◌∙◌, ⊎_elim, add-zero, add-suc, suc-add, arith, length-append, length-set, length-take, get_or-set_other, get_or-set_same, take-add}
-use mathlib.Core.Path.{fun_ext}
+use Rattle.std.proofs.Common.{◌≡◌, ℕ, zero, suc, ◌+◌, ◌*◌, ◌<◌, ◌≤◌, min, Bool, true, false, eqb, leb, List, [], ◌∷◌, ◌++◌, length, get_or, take, drop, set, replicate, Some, None, Option, sym, refl, ap, ◌∙◌, ⊎_elim, add-zero, add-suc, suc-add, arith, length-append, length-set, length-take, get_or-set_other, get_or-set_same, take-add}
+use Rattle.std.proofs.Math.Path.{fun_ext}
 use Rattle.std.proofs.lemmas.List.{append_assoc, take-append-drop, take_at, drop_at, get_or_past, get_or-take, get_or-drop, length-take-le, length-replicate}
 use Rattle.std.proofs.lemmas.Bool.{cases_eq, eq-eqb, ne_eqb, eqb-true, cases_lt, lt-ltb, le-leb, leb-true, cond-true, cond-false, cond_both}
 use Rattle.std.specs.Map.{update}
+use Rattle.std.proofs.lemmas.Map.{update_here, update_apart}
 use Rattle.store.specs.Meaning.{Short, Octets, byte_at, AllOctets, all_absent}
 use Rattle.store.specs.Answers.{put_contents, clear_contents}
 use Rattle.store.proofs.Octets.{put_octets, clear_octets}
 use Rattle.packed_store.specs.Layout.{packed_places, Table, AllShort, coded, encode, ended, Holds}
 use Rattle.packed_store.specs.Reading.{record_at, decode, table, intact, packed_contents}
-use Rattle.packed_store.specs.ReadingLaws.{record_short, length-decode, length-table}
+use Rattle.packed_store.specs.ReadingLaws.{record_short, length-table}
 
 -- A record that is read begins the bytes.
 pub record_in_front : (p : ℕ) (ys : List ℕ) → take (length (coded p (record_at p ys))) ys ≡ coded p (record_at p ys)
@@ -148,8 +149,8 @@ module _ (xs r ys zs : List ℕ) (at : ℕ) (o : Option (List ℕ)) (p : r ≡ x
       let e = held_is_read zs _ holds-set in
       let here : at < length (table xs) = rw length-table lt in
       fun_ext (λ k. ap (λ t. get_or t k None) e ∙ ⊎_elim
-      (λ same. rw same (get_or-set_same (table xs) at o None here ∙ sym (cond-true _ _ _ (eq-eqb at at refl))))
-      (λ ne. get_or-set_other (table xs) at k o None ne ∙ sym (cond-false _ _ _ (ne_eqb k at ne)))
+      (λ same. rw same (get_or-set_same (table xs) at o None here ∙ sym (update_here (packed_contents xs) at o)))
+      (λ ne. get_or-set_other (table xs) at k o None ne ∙ sym (update_apart (packed_contents xs) at o k ne))
       (cases_eq k at))
 
 module _ (xs r ys zs : List ℕ) (at : ℕ) (b : List ℕ) (p : r ≡ xs) (q : zs ≡ ys) (h : Holds ys (set (table r) at (Some b))) (lt : at < packed_places xs) (le : length b ≤ 64) where

@@ -1,5 +1,5 @@
 -- What holds of every memory of packed records.
-use Rattle.std.specs.Prelude.{◌≡◌, ℕ, zero, suc, ◌≤◌, min, List, [], ◌∷◌, length, Some, None, Option, ◌==◌, nat_le, slice_index_or, refl}
+use Rattle.std.specs.Prelude.{◌≡◌, ℕ, zero, suc, ◌≤◌, min, List, [], ◌∷◌, length, None, ◌==◌, nat_le, slice_index_or, refl}
 use Rattle.std.proofs.Common.{ap, arith, length-take}
 use Rattle.std.proofs.lemmas.List.{get_or_past}
 use Rattle.std.proofs.lemmas.Bool.{cond_both, leb-true}

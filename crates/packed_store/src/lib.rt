@@ -1,4 +1,6 @@
 //! A store that keeps a record for each present place, one behind the other, in a memory that has room for all.
+#![tactic(auto)]
+
 ghost use Rattle.std.specs.Prelude.{◌≡◌, ℕ, ◌≤◌, true, length, MatchResult};
 ghost use Rattle.store.specs.Meaning.{Short, AllOctets, all_absent};
 ghost use Rattle.store.specs.Answers.{get_answer, get_buffer, put_answer, put_contents, clear_answer, clear_contents};

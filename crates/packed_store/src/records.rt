@@ -42,7 +42,9 @@ fn record_length(all: &[u8], start: usize, place: usize) -> Option<usize>
 
 // Where the records of the places from `to` on begin, if those of the places from `from` on begin at `start`.
 fn seek(all: &[u8], from: usize, start: usize, to: usize) -> usize
-    requires { (from ≤ to) × ((to ≤ packed_places all.now) × (Stands all.now from start)) }
+    requires rising { from ≤ to }
+    requires in_range { to ≤ packed_places all.now }
+    requires begins { Stands all.now from start }
     ensures { Stands all.now to result }
 {
     let mut at = start;
@@ -75,7 +77,8 @@ pub(super) fn are_intact(all: &[u8]) -> bool
 
 // Makes a gap of `size` bytes where the record of the place is or would be, and says where that is.
 fn open_gap(all: &mut [u8], place: usize, size: usize) -> usize
-    requires { (place < packed_places all.old) × (size ≤ 66) }
+    requires in_range { place < packed_places all.old }
+    requires small { size ≤ 66 }
     ensures { Opened all.old all.new place size result }
 {
     let count = place_count(all);
@@ -89,7 +92,8 @@ fn open_gap(all: &mut [u8], place: usize, size: usize) -> usize
 }
 
 pub(super) fn read_record(all: &[u8], place: usize, buffer: &mut [u8]) -> Option<usize>
-    requires { (place < packed_places all.now) × (64 ≤ length buffer.old) }
+    requires in_range { place < packed_places all.now }
+    requires room { 64 ≤ length buffer.old }
     ensures length { result ≡ option_map length (packed_contents all.now place) }
     ensures buffer { buffer.new ≡ laid (packed_contents all.now place) buffer.old }
 {
@@ -102,7 +106,8 @@ pub(super) fn read_record(all: &[u8], place: usize, buffer: &mut [u8]) -> Option
 }
 
 pub(super) fn write_record(all: &mut [u8], place: usize, bytes: &[u8])
-    requires { (place < packed_places all.old) × (length bytes.now ≤ 64) }
+    requires in_range { place < packed_places all.old }
+    requires short { length bytes.now ≤ 64 }
     ensures { Holds all.new (slice_set (table all.old) place (Some bytes.now)) }
 {
     let len = bytes.len();

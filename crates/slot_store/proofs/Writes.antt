@@ -1,9 +1,10 @@
 -- What a write to one slot does to the contents of the memory.
-use Rattle.std.proofs.Common.{◌≡◌, ℕ, ◌+◌, ◌-◌, ◌*◌, ◌/◌, ◌<◌, ◌≤◌, min, Bool, true, false, cond, eqb, ltb, leb, List, length, get_or, take, drop, set, Some, None, Option, sym, refl, ap, ◌∙◌, ⊎_elim, arith, length-drop, length-take, get_or-set_other, get_or-set_same}
-use mathlib.Core.Path.{fun_ext}
+use Rattle.std.proofs.Common.{◌≡◌, ℕ, ◌+◌, ◌-◌, ◌*◌, ◌/◌, ◌<◌, ◌≤◌, min, true, false, eqb, ltb, List, length, get_or, take, drop, set, Some, None, Option, sym, refl, ap, ◌∙◌, ⊎_elim, arith, length-drop, length-take, get_or-set_other, get_or-set_same}
+use Rattle.std.proofs.Math.Path.{fun_ext}
 use Rattle.std.proofs.lemmas.List.{get_or-take, get_or-drop, get_or_past, ext_get_or, length-take-le}
 use Rattle.std.proofs.lemmas.Bool.{cases_eq, eq-eqb, ne_eqb, eqb-true, eqb-false, cases_lt, lt-ltb, le-ltb, le-leb, cond-true, cond-false, cond_both}
 use Rattle.std.specs.Map.{update}
+use Rattle.std.proofs.lemmas.Map.{update_here, update_apart}
 use Rattle.store.specs.Meaning.{Contents, Short, Octets, byte_at, AllOctets, all_absent}
 use Rattle.store.specs.Answers.{put_contents, clear_contents}
 use Rattle.store.proofs.Octets.{put_octets, clear_octets}
@@ -46,8 +47,8 @@ module _ (xs ys : List ℕ) (at m : ℕ) (here : at < slot_places xs) (w : Wrote
   slot_is_written o ok is =
       let lt : ltb at (slot_places ys) ≡ true = rw same_places (lt-ltb _ _ here) in
       fun_ext (λ k. ⊎_elim
-      (λ same. rw same (cond-true _ _ _ lt ∙ is ∙ sym (cond-true _ _ _ (eq-eqb at at refl))))
-      (λ ne. other_place_stays k ok ne ∙ sym (cond-false _ _ _ (ne_eqb k at ne)))
+      (λ same. rw same (cond-true _ _ _ lt ∙ is ∙ sym (update_here (slot_contents xs) at o)))
+      (λ ne. other_place_stays k ok ne ∙ sym (update_apart (slot_contents xs) at o k ne))
       (cases_eq k at))
 
   marks_stay_in_range : Marked xs → m ≤ 65 → Marked ys

@@ -1,6 +1,6 @@
 -- What holds of every memory of slots.
-use Rattle.std.specs.Prelude.{◌≡◌, ℕ, ◌+◌, ◌-◌, ◌*◌, ◌<◌, ◌≤◌, Bool, true, false, cond, List, length, Some, None, Option, ◌==◌, refl}
-use Rattle.std.proofs.Common.{sym, ◌∙◌, ⊎_elim, arith, length-take}
+use Rattle.std.specs.Prelude.{◌≡◌, ℕ, ◌<◌, ◌≤◌, List, None, ◌==◌}
+use Rattle.std.proofs.Common.{⊎_elim, arith, length-take}
 use Rattle.std.proofs.lemmas.Bool.{cases_lt, lt-ltb, le-ltb, cond-true, cond-false, cond_both}
 use Rattle.store.specs.Meaning.{Short}
 use Rattle.slot_store.specs.Layout.{slot_places, mark, slot_at, slot_contents, Marked}

@@ -1,4 +1,6 @@
 //! A store that gives each place 65 bytes of its memory: a mark and room for 64 bytes.
+#![tactic(auto)]
+
 ghost use Rattle.std.specs.Prelude.{◌≡◌, ℕ, ◌≤◌, length, MatchResult};
 ghost use Rattle.store.specs.Meaning.{Short, AllOctets, all_absent};
 ghost use Rattle.store.specs.Answers.{get_answer, get_buffer, put_answer, put_contents, clear_answer, clear_contents};

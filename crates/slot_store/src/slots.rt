@@ -17,7 +17,9 @@ pub(super) fn slot_count(all: &[u8]) -> usize
 }
 
 pub(super) fn read_slot(all: &[u8], place: usize, buffer: &mut [u8]) -> Option<usize>
-    requires { (place < slot_places all.now) × ((mark all.now place ≤ 65) × (64 ≤ length buffer.old)) }
+    requires in_range { place < slot_places all.now }
+    requires marked { mark all.now place ≤ 65 }
+    requires room { 64 ≤ length buffer.old }
     ensures length { result ≡ option_map length (slot_at all.now place) }
     ensures buffer { buffer.new ≡ laid (slot_at all.now place) buffer.old }
 {
@@ -32,7 +34,8 @@ pub(super) fn read_slot(all: &[u8], place: usize, buffer: &mut [u8]) -> Option<u
 }
 
 pub(super) fn write_slot(all: &mut [u8], place: usize, bytes: &[u8])
-    requires { (place < slot_places all.old) × (length bytes.now ≤ 64) }
+    requires in_range { place < slot_places all.old }
+    requires short { length bytes.now ≤ 64 }
     ensures frame { Wrote all.old all.new place (length bytes.now + 1) }
     ensures bytes { take (length bytes.now) (drop (65 * place + 1) all.new) ≡ bytes.now }
 {

@@ -1,12 +1,12 @@
 -- What a store holds stays bytes.
-use Rattle.std.proofs.Common.{ℕ, ◌<◌, Bool, true, false, cond, eqb, ltb, leb, List, [], length, get_or, Some, None, Option, arith}
+use Rattle.std.proofs.Common.{ℕ, ◌<◌, eqb, ltb, leb, List, length, Some, None, Option, arith}
 use Rattle.std.proofs.lemmas.Bool.{cond_both}
 use Rattle.std.specs.Map.{update}
 use Rattle.store.specs.Meaning.{Contents, Octets, byte_at, AllOctets}
 use Rattle.store.specs.Answers.{put_contents, clear_contents}
 
 update_octets : (v : Contents) (p : ℕ) (o : Option (List ℕ)) → AllOctets v → ((j : ℕ) → byte_at o j < 256) → AllOctets (update eqb v p o)
-update_octets v p o all new k j = cond_both (eqb k p) o (v k) (λ x. byte_at x j < 256) (λ _. new j) (λ _. all k j)
+update_octets v p o all new k j = cond_both (eqb p k) o (v k) (λ x. byte_at x j < 256) (λ _. new j) (λ _. all k j)
 
 pub put_octets : (n : ℕ) (v : Contents) (p : ℕ) (bytes : List ℕ) → AllOctets v → Octets bytes → AllOctets (put_contents n v p bytes)
 put_octets n v p bytes all new =

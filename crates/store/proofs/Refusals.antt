@@ -1,12 +1,13 @@
 -- The laws of the answers.
-use Rattle.std.proofs.Common.{◌≡◌, ℕ, ◌<◌, ◌≤◌, Bool, true, false, cond, eqb, ltb, leb, List, length, Some, None, Ok, Err, Option, Result, sym, refl, ap, ◌∙◌, arith}
-use Rattle.std.proofs.lemmas.Bool.{cond_both, cond-true, cond-false, ltb-true, ltb-false, leb-true, leb-false, eq-eqb, ne_eqb}
+use Rattle.std.proofs.Common.{◌≡◌, ℕ, ◌<◌, ◌≤◌, Bool, true, false, cond, eqb, ltb, leb, length, Some, None, Ok, Err, Result, sym, refl, arith}
+use Rattle.std.proofs.lemmas.Bool.{cond_both, ltb-true, ltb-false, leb-true, leb-false}
 use Rattle.std.specs.Map.{update}
+use Rattle.std.proofs.lemmas.Map.{update_here, update_apart}
 use Rattle.std.specs.Option.{option_map}
 use Rattle.store.specs.declared.StoreRefusal.{StoreRefusal}
 use Rattle.store.specs.declared.StoreRefusal.TheVariants.{NoPlace, TooLong, SmallBuffer}
 use Rattle.store.specs.Meaning.{Contents}
-use Rattle.store.specs.Answers.{laid, get_answer, get_buffer, put_answer, put_contents, clear_answer, clear_contents}
+use Rattle.store.specs.Answers.{laid}
 use Rattle.store.specs.Number.{number}
 use Rattle.store.specs.Laws.{GetFault, PutFault, ClearFault, Lowest, LowestRefuses, RefusalChangesNothing, OnePlaceChanges}
 
@@ -88,25 +89,19 @@ refusal_changes_nothing = record {
       (λ _. refl);
 }
 
-updated : (v : Contents) (p : ℕ) (o : Option (List ℕ)) → update eqb v p o p ≡ o
-updated v p o = cond-true _ _ _ (eq-eqb p p refl)
-
-not_updated : (v : Contents) (p : ℕ) (o : Option (List ℕ)) (k : ℕ) → (k ≡ p → ⊥) → update eqb v p o k ≡ v k
-not_updated v p o k ne = cond-false _ _ _ (ne_eqb k p ne)
-
 pub one_place_changes : OnePlaceChanges
 one_place_changes = record {
   put = λ n v p bytes.
       by_test (ltb p n) (λ b. cond b (cond (leb (length bytes) 64) (Ok tt) (Err TooLong)) (Err NoPlace) ≡ Ok tt → cond b (cond (leb (length bytes) 64) (update eqb v p (Some bytes)) v) v p ≡ Some bytes)
       (by_test (leb (length bytes) 64) (λ b. cond b (Ok tt) (Err TooLong) ≡ Ok tt → cond b (update eqb v p (Some bytes)) v p ≡ Some bytes)
-      (λ _. updated v p (Some bytes))
+      (λ _. update_here v p (Some bytes))
       (λ h. absurd (ok_is_no_refusal _ _ (sym h))))
       (λ h. absurd (ok_is_no_refusal _ _ (sym h)));
   put_others = λ n v p bytes k ne.
-      cond_both (ltb p n) _ _ (λ (w : Contents). w k ≡ v k) (λ _. cond_both (leb (length bytes) 64) _ _ (λ (w : Contents). w k ≡ v k) (λ _. not_updated v p (Some bytes) k ne) (λ _. refl)) (λ _. refl);
+      cond_both (ltb p n) _ _ (λ (w : Contents). w k ≡ v k) (λ _. cond_both (leb (length bytes) 64) _ _ (λ (w : Contents). w k ≡ v k) (λ _. update_apart v p (Some bytes) k ne) (λ _. refl)) (λ _. refl);
   clear = λ n v p.
       by_test (ltb p n) (λ b. cond b (Ok tt) (Err NoPlace) ≡ Ok tt → cond b (update eqb v p None) v p ≡ None)
-      (λ _. updated v p None)
+      (λ _. update_here v p None)
       (λ h. absurd (ok_is_no_refusal _ _ (sym h)));
-  clear_others = λ n v p k ne. cond_both (ltb p n) _ _ (λ (w : Contents). w k ≡ v k) (λ _. not_updated v p None k ne) (λ _. refl);
+  clear_others = λ n v p k ne. cond_both (ltb p n) _ _ (λ (w : Contents). w k ≡ v k) (λ _. update_apart v p None k ne) (λ _. refl);
 }

@@ -1,5 +1,5 @@
 -- What a store holds.
-use Rattle.std.specs.Prelude.{◌≡◌, ℕ, ◌<◌, ◌≤◌, List, length, IfSome, Some, None, Option, slice_index}
+use Rattle.std.specs.Prelude.{ℕ, ◌<◌, ◌≤◌, List, length, IfSome, Some, None, Option, slice_index}
 
 -- what each place holds: None where it is absent, else its bytes
 abbrev pub Contents : Type 0

@@ -1,4 +1,6 @@
 //! A store keeps small contents by place. This crate says what every make of store means; the makes are crates of their own.
+#![tactic(auto)]
+
 ghost use Rattle.std.specs.Prelude.{◌≡◌, ℕ, ◌≤◌, List, length, None, Option};
 ghost use Rattle.store.specs.Meaning.{Contents, Short, AllOctets};
 ghost use Rattle.store.specs.Answers.{get_answer, get_buffer, put_answer, put_contents, clear_answer, clear_contents};

@@ -1,4 +1,6 @@
 //! What the memory image of a store holds, as text, and changes of an image.
+#![tactic(auto)]
+
 ghost use Rattle.std.specs.Prelude.{◌≡◌, IfOk, string_bytes, MatchResult};
 ghost use Rattle.store_report.specs.declared.ImageError.TheVariants.{NotAStore as Foreign, Refused, OutOfMemory};
 ghost use Rattle.store_report.specs.Images.{Listed, ListFails, PutDone, PutFails, ClearDone, ClearFails, FreshImage};

@@ -73,13 +73,14 @@ fn push_present(
 
 // The length of what the place holds, whose bytes are then the buffer's first.
 fn read<S: Store>(store: &S, place: usize, buffer: &mut [u8]) -> Option<usize>
-    requires { (place < places store.now) × (64 ≤ length buffer.old) }
-    ensures length { result ≡ option_map length (contents store.now place) }
-    ensures buffer { buffer.new ≡ laid (contents store.now place) buffer.old }
+    requires in_range { place < S.places store.now }
+    requires room { 64 ≤ length buffer.old }
+    ensures length { result ≡ option_map length (S.contents store.now place) }
+    ensures buffer { buffer.new ≡ laid (S.contents store.now place) buffer.old }
 {
     match store.get(place, buffer) {
         Ok(found) => found,
-        Err(_) => unreachable(),
+        Err(_) => unreachable!(),
     }
 }
 
@@ -91,8 +92,9 @@ fn push_line<S: Store>(
     place: usize,
     buffer: &mut [u8],
 ) -> Result<(), AllocError>
-    requires { (place < places store.now) × (64 ≤ length buffer.old) }
-    ensures { OnOk result (string_bytes text.new ≡ string_bytes text.old ++ line place (contents store.now place)) }
+    requires in_range { place < S.places store.now }
+    requires room { 64 ≤ length buffer.old }
+    ensures { OnOk result (string_bytes text.new ≡ string_bytes text.old ++ line place (S.contents store.now place)) }
 {
     match read(store, place, buffer) {
         None => push_absent(text, heap, place),
@@ -102,7 +104,7 @@ fn push_line<S: Store>(
 
 /// A line for each place: `place N absent`, or `place N present HEX` with the bytes as pairs of lower-case hexadecimal digits, `-` for none.
 pub fn list<S: Store>(heap: Global, store: &S) -> Result<String, AllocError>
-    ensures { IfOk result (λ text. string_bytes text ≡ listing (contents store.now) (places store.now)) }
+    ensures { IfOk result (λ text. string_bytes text ≡ listing (S.contents store.now) (S.places store.now)) }
 {
     let mut text = String::new(heap);
     let mut block = [0u8; LONGEST];

@@ -9,10 +9,10 @@ unfolding lowest
 loop-d-init c = refl
 
 pub returns-in-Some : goal.returns-in-Some
-returns-in-Some c = clash_here (model c.args.tables.now) c.loop-d.d _ c.in-Some.targets c.domain-count-d-end.ensures c.loop-d-test.true c.loop-d.invariant c.in-Some.ensures
+returns-in-Some c = clash_here (model c.args.tables.now) c.loop-d.d _ c.in-Some.targets c.domain_count-d-end.ensures c.loop-d-test.true c.loop-d.invariant c.in-Some.ensures
 
 pub loop-d-preserved : goal.loop-d-preserved
-loop-d-preserved c = clash_more (model c.args.tables.now) c.loop-d.d c.loop-d.invariant c.in-default.ensures
+loop-d-preserved c = clash_more (model c.args.tables.now) c.loop-d.d c.loop-d.invariant c.in_default.ensures
 
 pub returns : goal.returns
-returns c = clash_end (model c.args.tables.now) c.loop-d.d _ c.domain-count-d-end.ensures c.loop-d-test.false c.loop-d.invariant
+returns c = clash_end (model c.args.tables.now) c.loop-d.d _ c.domain_count-d-end.ensures c.loop-d-test.false c.loop-d.invariant

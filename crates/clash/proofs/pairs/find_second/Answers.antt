@@ -15,7 +15,7 @@ clashes-requires c =
     record {
       table = c.requires.table;
       low = omega (arith, few, c.requires.low);
-      high = omega (arith, few, c.loop-f-test.true, c.domain-count-f-end.ensures);
+      high = omega (arith, few, c.loop-f-test.true, c.domain_count-f-end.ensures);
     }
 
 pub returns-then-clashes : goal.returns-then-clashes

@@ -3,5 +3,5 @@ use Rattle.draft.proofs.aparts.is_broken.Goals as goal
 
 pub returns : goal.returns
 returns c =
-    chained_by_links _ c.args.apart _ _ c.of-type-from.ensures c.of-type-to.ensures _
-    (c.links-to.ensures _ _ (c.spread.ensures _ c.requires)) _ c.is-some.ensures
+    chained_by_links _ c.args.apart _ _ c.of_type-from.ensures c.of_type-to.ensures _
+    (c.links_to.ensures _ _ (c.spread.ensures _ c.requires)) _ c.is_some.ensures

@@ -4,4 +4,4 @@ use Rattle.packed_store.proofs.records.clear_record.Goals as goal
 
 pub returns : goal.returns
 returns c =
-    holds_of_equals _ _ _ (unfilled c.open-gap.new.all c.open-gap.result _ (omega arith)) (c.open-gap.ensures.fills None tt (omega arith))
+    holds_of_equals _ _ _ (unfilled c.open_gap.new.all c.open_gap.result _ (omega arith)) (c.open_gap.ensures.fills None tt (omega arith))

@@ -4,8 +4,8 @@ use Rattle.packed_store.proofs.records.write_record.Goals as goal
 
 pub returns : goal.returns
 returns c =
-    let o = c.open-gap-start.ensures in
+    let o = c.open_gap-start.ensures in
     let r = o.room in
     let l = o.long in
-    holds_of_equals _ _ _ (written c.open-gap-start.new.all c.args.bytes.now c.copy-from-slice.new.self c.open-gap-start.result c.args.place _ _ _ (omega arith) c.copy-from-slice.ensures.after (omega arith) (omega arith) (omega arith))
-    (o.fills (Some c.args.bytes.now) c.requires.1 (omega arith))
+    holds_of_equals _ _ _ (written c.open_gap-start.new.all c.args.bytes.now c.copy_from_slice.new.self c.open_gap-start.result c.args.place _ _ _ (omega arith) c.copy_from_slice.ensures.after (omega arith) (omega arith) (omega arith))
+    (o.fills (Some c.args.bytes.now) c.requires.short (omega arith))

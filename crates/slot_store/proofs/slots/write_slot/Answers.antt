@@ -1,6 +1,6 @@
 use Rattle.std.proofs.Common.{arith, rules}
-use Rattle.std.proofs.lemmas.List.{places, get_or-set_same, get_or-set_other}
-use Rattle.std.proofs.lemmas.Slice.{overwrites, between-put_mid}
+use Rattle.std.proofs.lemmas.List.{places, get_or-set_other}
+use Rattle.std.proofs.lemmas.Slice.{overwrites}
 use Rattle.slot_store.proofs.slots.write_slot.Goals as goal
 
 pub returns : goal.returns

@@ -3,7 +3,7 @@ use Rattle.std.proofs.lemmas.Bool.{both_ways}
 use Rattle.clash.specs.declared.sharing.Row.{Row}
 use Rattle.clash.proofs.Marks.{Marking, marked_too, beyond, not-above, by_another_path, all-marked}
 use Rattle.clash.proofs.sharing.Row.mark_entered.Goals as goal
-use Rattle.clash.proofs.sharing.Row.mark_entered.Goals.{then-low-dom+then-dom-lt32+then-are-same, else-low-dom, else-low-dom-via-then-low-dom+then-dom-lt32+else-are-same, else-low-dom-via-then-low-dom+else-dom-lt32, else-low-dom-via-else-low-dom}
+use Rattle.clash.proofs.sharing.Row.mark_entered.Goals.{then-low-dom+then-dom-lt32+then-are_same, else-low-dom, else-low-dom-via-then-low-dom+then-dom-lt32+else-are_same, else-low-dom-via-then-low-dom+else-dom-lt32, else-low-dom-via-else-low-dom}
 
 pub loop-entry-preserved : goal.loop-entry-preserved
 loop-entry-preserved c =
@@ -18,19 +18,19 @@ loop-entry-preserved c =
     let inv = c.loop-entry.invariant in
     let Goal : Row → Type 0 = λ (r : Row). (length r.0 ≡ 32) × Marking xs e p (i + 1) before r in
     elim c.if-low-dom.branch [
-      | then-low-dom+then-dom-lt32+then-are-same w ↦
+      | then-low-dom+then-dom-lt32+then-are_same w ↦
           subst Goal (sym w.self-is) (
             rw length-set inv.0,
             marked_too xs i x is-next c.entry-item.is e p before row inv.1 inv.0 w.if-dom-lt32.true
-                (sym w.as-bytes.ensures.value ∙ w.are-same.ensures.0 w.if-are-same.true),
+                (sym w.as_bytes.ensures.value ∙ w.are_same.ensures.0 w.if-are_same.true),
           )
       | else-low-dom w ↦
           subst Goal (sym w.self-is) (
             inv.0,
             elim w.else-low-dom.branch [
-              | else-low-dom-via-then-low-dom+then-dom-lt32+else-are-same v ↦
+              | else-low-dom-via-then-low-dom+then-dom-lt32+else-are_same v ↦
                   by_another_path xs i x is-next c.entry-item.is e p before row inv.1
-                  (λ q. both_ways _ v.if-are-same.false (v.are-same.ensures.1 (v.as_bytes.ensures.value ∙ q)))
+                  (λ q. both_ways _ v.if-are_same.false (v.are_same.ensures.1 (v.as_bytes.ensures.value ∙ q)))
               | else-low-dom-via-then-low-dom+else-dom-lt32 v ↦ beyond xs i x is-next c.entry-item.is e p before row inv.1 v.if-dom-lt32.false
               | else-low-dom-via-else-low-dom v ↦ not-above xs i x is-next c.entry-item.is e p before row inv.1 v.if-low-dom.false
             ],

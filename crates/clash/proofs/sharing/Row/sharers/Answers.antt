@@ -15,7 +15,7 @@ loop-entry-preserved c =
     elim c.if-entry-low.branch [
       | then-entry-low w ↦
           subst (Gathering xs e (i + 1)) (sym w.row-is)
-          (its_own xs i x c.loop-entry-test.true c.entry-item.is e c.loop-entry.row c.loop-entry.invariant _ w.mark-entered.new.self w.as-bytes.ensures.value w.if-entry-low.true w.mark-entered.ensures)
+          (its_own xs i x c.loop-entry-test.true c.entry-item.is e c.loop-entry.row c.loop-entry.invariant _ w.mark_entered.new.self w.as_bytes.ensures.value w.if-entry-low.true w.mark_entered.ensures)
       | else-entry-low w ↦
           subst (Gathering xs e (i + 1)) (sym w.row-is)
           (of_another xs i x c.loop-entry-test.true c.entry-item.is e c.loop-entry.row c.loop-entry.invariant w.if-entry-low.false)

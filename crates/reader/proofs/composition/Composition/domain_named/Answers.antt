@@ -4,11 +4,11 @@ use Rattle.label.specs.declared.numbers.Dom.{Dom}
 use Rattle.reader.proofs.Looks.{no_name, a_name}
 use Rattle.reader.proofs.composition.Composition.domain_named.Goals as goal
 
-pub returns-then-not-is-name : goal.returns-then-not-is-name
-returns-then-not-is-name c = sym (ap (λ x. then {B = Dom} x (λ i. Ok (record { 0 = i }))) (no_name _ _ c.if-not-is-name.ensures))
+pub returns-then-not-is_name : goal.returns-then-not-is_name
+returns-then-not-is_name c = sym (ap (λ x. then {B = Dom} x (λ i. Ok (record { 0 = i }))) (no_name _ _ c.if-not-is_name.ensures))
 
-pub returns-in-default : goal.returns-in-default
-returns-in-default c = sym (ap (λ x. then {B = Dom} x (λ i. Ok (record { 0 = i }))) (a_name _ _ None c.if-not-is-name.ensures c.in-default.ensures))
+pub returns-in_default : goal.returns-in_default
+returns-in_default c = sym (ap (λ x. then {B = Dom} x (λ i. Ok (record { 0 = i }))) (a_name _ _ None c.if-not-is_name.ensures c.in_default.ensures))
 
 pub returns : goal.returns
-returns c = sym (ap (λ x. then {B = Dom} x (λ i. Ok (record { 0 = i }))) (a_name _ _ (Some c.in-Some.dom.0) c.if-not-is-name.ensures c.in-Some.ensures))
+returns c = sym (ap (λ x. then {B = Dom} x (λ i. Ok (record { 0 = i }))) (a_name _ _ (Some c.in-Some.dom.0) c.if-not-is_name.ensures c.in-Some.ensures))
