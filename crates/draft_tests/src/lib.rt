@@ -1,4 +1,6 @@
 //! Examples of drafts, and of the faults of module texts.
+#![tactic(auto)]
+
 ghost use Rattle.std.specs.Prelude.{◌≡◌};
 
 #[cfg(test)]

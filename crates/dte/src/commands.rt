@@ -65,7 +65,7 @@ fn write_failure(
 fn compose_files(rt: &HostRuntime, style: Style, files: &[String]) -> anyhow::Result<SealedPolicy> {
     let texts = read_files(rt, files)?;
     let [first, further @ ..] = texts.as_slice() else {
-        return Err(USAGE.into());
+        return Err(anyhow!(USAGE));
     };
     match compose(rt.alloc(), first.as_slice(), further) {
         Ok(policy) => Ok(policy),
@@ -97,10 +97,10 @@ fn write_type(rt: &HostRuntime, style: Style, policy: &Policy, word: &str) -> io
 
 fn types(rt: &HostRuntime, style: Style, words: &[String]) -> anyhow::Result<()> {
     let Some((files, paths)) = split_query(words) else {
-        return Err(USAGE.into());
+        return Err(anyhow!(USAGE));
     };
     if paths.is_empty() {
-        return Err(USAGE.into());
+        return Err(anyhow!(USAGE));
     }
     let sealed = compose_files(rt, style, files)?;
     for path in paths {
@@ -134,7 +134,7 @@ fn write_answer(
 
 fn access(rt: &HostRuntime, style: Style, words: &[String]) -> anyhow::Result<()> {
     let Some((files, [dom, letter, obj])) = split_query(words) else {
-        return Err(USAGE.into());
+        return Err(anyhow!(USAGE));
     };
     let policy = compose_files(rt, style, files)?;
     let sealed = policy.decisions();
@@ -154,12 +154,12 @@ fn access(rt: &HostRuntime, style: Style, words: &[String]) -> anyhow::Result<()
 // A command and the words behind it.
 pub(crate) fn run(rt: &HostRuntime, style: Style, words: &[String]) -> anyhow::Result<()> {
     let [command, rest @ ..] = words else {
-        return Err(USAGE.into());
+        return Err(anyhow!(USAGE));
     };
     match command.as_str() {
         "tables" => tables(rt, style, rest),
         "type" => types(rt, style, rest),
         "access" => access(rt, style, rest),
-        _ => Err(USAGE.into()),
+        _ => Err(anyhow!(USAGE)),
     }
 }

@@ -1,7 +1,10 @@
 //! The program `dte`: questions to a policy that is composed from module files, an account of the example policy,
 //! and a look into the memory image of a store.
+#![tactic(auto)]
+
 use anyhow::anyhow;
 use std::env;
+use std::process::ExitCode;
 
 mod account;
 mod advice;
@@ -44,10 +47,12 @@ fn run(rt: &HostRuntime) -> anyhow::Result<()> {
     }
 }
 
-fn main(rt: HostRuntime) -> anyhow::Result<()> {
-    let done = run(&rt);
-    if let Err(error) = &done {
-        eprintln!(rt; "dte: {error}")?;
+fn main(rt: HostRuntime) -> anyhow::Result<ExitCode> {
+    match run(&rt) {
+        Ok(()) => Ok(ExitCode::SUCCESS),
+        Err(error) => {
+            eprintln!(rt; "dte: {error}")?;
+            Ok(ExitCode::FAILURE)
+        }
     }
-    done
 }

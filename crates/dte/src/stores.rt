@@ -82,10 +82,10 @@ fn list(rt: &HostRuntime, make: Make, file: &str) -> anyhow::Result<()> {
 // The words after `store`.
 pub(crate) fn run(rt: &HostRuntime, words: &[String]) -> anyhow::Result<()> {
     let [make, file, rest @ ..] = words else {
-        return Err(USAGE.into());
+        return Err(anyhow!(USAGE));
     };
     let Some(make) = make_named(make.as_str()) else {
-        return Err(USAGE.into());
+        return Err(anyhow!(USAGE));
     };
     let file = file.as_str();
     match rest {
@@ -99,6 +99,6 @@ pub(crate) fn run(rt: &HostRuntime, words: &[String]) -> anyhow::Result<()> {
         ),
         [verb, place] if verb.as_str() == "clear" => clear(rt, make, file, place.as_str()),
         [verb, places] if verb.as_str() == "fresh" => fresh(rt, make, file, places.as_str()),
-        _ => Err(USAGE.into()),
+        _ => Err(anyhow!(USAGE)),
     }
 }

@@ -1,4 +1,5 @@
 //! Examples of flow: chains in policies that are opened from their texts.
+#![tactic(auto)]
 
 #[cfg(test)]
 mod tests {
@@ -84,11 +85,16 @@ mod tests {
         from: &Objects,
         to: &Objects,
         nodes: &[u8],
+        why: &str,
     ) {
         let mut buffer = [STALE; 170];
         let links = nodes.len().checked_sub(1);
-        assert_eq!(rt; policy.chart().search(from, to, &mut buffer), Ok(links));
-        assert!(rt; holds(&buffer, nodes));
+        assert_eq!(rt;
+            policy.chart().search(from, to, &mut buffer),
+            Ok(links),
+            "{why}"
+        );
+        assert!(rt; holds(&buffer, nodes), "{why}");
     }
 
     // The same between the objects of types.
@@ -98,6 +104,7 @@ mod tests {
         from: &[&str],
         to: &[&str],
         nodes: &[u8],
+        why: &str,
     ) -> Result<(), Fail> {
         check_found(
             rt,
@@ -105,6 +112,7 @@ mod tests {
             &objects(policy, from)?,
             &objects(policy, to)?,
             nodes,
+            why,
         );
         Ok(())
     }
@@ -158,12 +166,12 @@ object /bin/c
     fn check_case(rt: &impl Abort, heap: Global, case: Case) -> Result<(), Fail> {
         let text = write_policy(heap, case.domains)?;
         let policy = open(heap, text.as_slice())?;
-        check_chain(rt, &policy, &[case.from], &[case.to], case.nodes)
+        check_chain(rt, &policy, &[case.from], &[case.to], case.nodes, case.why)
     }
 
     fn check_cases(rt: &impl Abort, heap: Global, cases: &[Case]) -> Result<(), Fail> {
         for case in cases {
-            check_case(rt, heap, *case).note(case.why)?;
+            check_case(rt, heap, *case)?;
         }
         Ok(())
     }
@@ -523,9 +531,16 @@ object /label
     #[test]
     fn five_objects(rt: HostRuntime) -> Result<(), Fail> {
         let policy = open(rt.alloc(), FIVE.as_bytes())?;
-        check_chain(&rt, &policy, &["t_lim"], &["t_any"], &[2, 129, 3, 130, 4])?;
-        check_chain(&rt, &policy, &["t_any"], &["t_lim"], &[])?;
-        check_chain(&rt, &policy, &["t_log"], &["t_log"], &[3])?;
+        check_chain(
+            &rt,
+            &policy,
+            &["t_lim"],
+            &["t_any"],
+            &[2, 129, 3, 130, 4],
+            "five objects",
+        )?;
+        check_chain(&rt, &policy, &["t_any"], &["t_lim"], &[], "five objects")?;
+        check_chain(&rt, &policy, &["t_log"], &["t_log"], &[3], "five objects")?;
         check_links(&rt, &policy, &["t_bin"], &["t_log"], Some(3))
     }
 
@@ -539,10 +554,25 @@ object /label
             &["t_any", "t_lim"],
             &["t_bin", "t_log"],
             &[2, 129, 3],
+            "sets of types",
         )?;
-        check_chain(&rt, &policy, &["t_any", "t_lim"], &["t_log", "t_any"], &[4])?;
-        check_chain(&rt, &policy, &["t_any", "t_log"], &["t_bin", "t_lim"], &[])?;
-        check_chain(&rt, &policy, &[], &["t_any", "t_log"], &[])?;
+        check_chain(
+            &rt,
+            &policy,
+            &["t_any", "t_lim"],
+            &["t_log", "t_any"],
+            &[4],
+            "sets of types",
+        )?;
+        check_chain(
+            &rt,
+            &policy,
+            &["t_any", "t_log"],
+            &["t_bin", "t_lim"],
+            &[],
+            "sets of types",
+        )?;
+        check_chain(&rt, &policy, &[], &["t_any", "t_log"], &[], "sets of types")?;
         check_links(&rt, &policy, &["t_lim", "t_bin"], &["t_any"], Some(3))
     }
 
@@ -564,14 +594,23 @@ object /label
             &set_of(&[1]),
             &set_of(&[3]),
             &[1, 128, 129, 3],
+            "sets of objects",
         );
-        check_found(&rt, &policy, &set_of(&[0, 4]), &set_of(&[1, 4]), &[4]);
+        check_found(
+            &rt,
+            &policy,
+            &set_of(&[0, 4]),
+            &set_of(&[1, 4]),
+            &[4],
+            "sets of objects",
+        );
         check_found(
             &rt,
             &policy,
             &set_of(&[5, 127, 128, 255]),
             &set_of(&[5, 127, 128, 255]),
             &[],
+            "sets of objects",
         );
         Ok(())
     }

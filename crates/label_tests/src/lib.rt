@@ -1,4 +1,5 @@
 //! Examples of names, paths, letters and refusals.
+#![tactic(auto)]
 
 #[cfg(test)]
 mod tests {

@@ -1,4 +1,5 @@
 //! Examples of tables, and of what a policy decides.
+#![tactic(auto)]
 
 #[cfg(test)]
 mod tests {

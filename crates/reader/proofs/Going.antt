@@ -1,5 +1,5 @@
 -- How a call goes on or stops.
-use Rattle.std.proofs.Common.{◌≡◌, ℕ, Bool, true, false, cond, List, Some, None, Ok, Err, Option, Result, sym, refl, ap, ◌∙◌, subst, arith}
+use Rattle.std.proofs.Common.{◌≡◌, ℕ, Some, None, Ok, Err, Option, Result, sym, refl, ap, subst, arith}
 use Rattle.label.specs.Refusals.{Takes, Does}
 use Rattle.label.specs.declared.refusal.Refusal.{Refusal}
 use Rattle.label.specs.declared.refusal.Refusal.TheVariants as refusal

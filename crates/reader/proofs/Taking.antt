@@ -1,10 +1,10 @@
 -- Token by token.
-use Rattle.std.proofs.Common.{◌≡◌, ℕ, Bool, true, false, List, [], ◌∷◌, Ok, Err, Result, sym, refl, ap, ◌∙◌, subst}
+use Rattle.std.proofs.Common.{◌≡◌, ℕ, Bool, true, false, List, [], ◌∷◌, Ok, Err, sym, refl, ap, ◌∙◌, subst}
 use Rattle.scan.specs.Tokens.{Piece, Said, Gives, is_last}
 use Rattle.scan.specs.Tokens.Piece.{at}
 use Rattle.reader.specs.Composed.{Composed}
 use Rattle.reader.specs.Reading.{Outcome, reading, tables, fault}
-use Rattle.reader.specs.Statements.{Next, on_token}
+use Rattle.reader.specs.Statements.{on_token}
 use Rattle.reader.specs.Stops.{Steps, Ends, halt_at}
 use Rattle.reader.specs.declared.position.Position.{Position}
 use Rattle.reader.specs.declared.reason.Reason.{Reason}

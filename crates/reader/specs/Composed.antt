@@ -1,5 +1,5 @@
 -- What the modules that were read come to.
-use Rattle.std.specs.Prelude.{ℕ, Bool, true, false, List, replicate, slice_index_or, slice_set}
+use Rattle.std.specs.Prelude.{Bool, true, false, List, replicate, slice_index_or, slice_set}
 use Rattle.label.specs.declared.numbers.Dom.{Dom}
 use Rattle.tables.specs.Model.{Model, model, empty}
 use Rattle.reader.specs.declared.composition.Composition.{Composition}

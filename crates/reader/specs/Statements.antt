@@ -1,5 +1,5 @@
 -- What each token does at each position of a line: where it leads and what it adds to the tables, or why it is refused there.
-use Rattle.std.specs.Prelude.{ℕ, Bool, true, false, cond, List, map, length, is_some, Some, None, Ok, Err, codes, Option, Result, nat_le}
+use Rattle.std.specs.Prelude.{ℕ, cond, List, map, length, is_some, Some, None, Ok, Err, codes, Option, Result, nat_le}
 use Rattle.label.specs.Held.{named, pathed}
 use Rattle.label.specs.Refusals.{refuses_more}
 use Rattle.label.specs.Tests.{is_name}

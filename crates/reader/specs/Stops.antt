@@ -8,7 +8,6 @@ use Rattle.reader.specs.Reasons.{reason_of}
 use Rattle.reader.specs.Statements.{Next}
 use Rattle.reader.specs.declared.composition.Composition.{Composition}
 use Rattle.reader.specs.declared.position.Position.{Position}
-use Rattle.reader.specs.declared.reason.Reason.{Reason}
 use Rattle.reader.specs.declared.stop.Stop.{Stop}
 use Rattle.reader.specs.declared.stop.Stop.TheVariants as stop
 use Rattle.reader.specs.declared.stop.Halt.{Halt}

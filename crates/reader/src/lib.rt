@@ -1,4 +1,6 @@
 //! Reads a module text into the tables of a policy, or finds its first fault.
+#![tactic(auto)]
+
 pub mod composition;
 pub mod marks;
 pub mod names;

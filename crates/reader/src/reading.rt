@@ -3,7 +3,7 @@ ghost use Rattle.std.specs.Prelude.{◌≡◌};
 ghost use Rattle.scan.specs.Tokens.{said, piece, is_last};
 ghost use Rattle.tables.specs.Model.{model};
 ghost use Rattle.reader.specs.Composed.{composed};
-ghost use Rattle.reader.specs.Reading.{read as reading_after};
+ghost use Rattle.reader.specs.Reading.{read as read_after};
 ghost use Rattle.reader.specs.Statements as due;
 ghost use Rattle.reader.specs.Stops.{Steps, Ends, Reads, halt_at};
 
@@ -49,7 +49,7 @@ impl Composition {
 
     // Joins what the text says.
     pub(crate) fn join(&mut self, text: &[u8]) -> Result<(), Halt>
-        ensures { Ends (reading_after (composed self.old) text.now) result (composed self.new) }
+        ensures { Ends (read_after (composed self.old) text.now) result (composed self.new) }
     {
         let mut scanner = Scanner::new(text);
         let mut position = Position::Start;
@@ -83,7 +83,7 @@ pub fn read(
     specified: &[bool; 32],
     text: &[u8],
 ) -> Result<Composition, Halt>
-    ensures { Reads (reading_after (record { tables = model tables.entry.now; specified = specified.now }) text.now) result }
+    ensures { Reads (read_after (record { tables = model tables.now; specified = specified.now }) text.now) result }
 {
     let Ok(tables) = tables.copy(heap) else {
         return Err(Halt::Memory);

@@ -1,5 +1,7 @@
 //! What reading module texts comes to.
 //! There is nothing to run: each function stands for the law that its contract names.
+#![tactic(auto)]
+
 ghost use Rattle.std.specs.Prelude.{◌≡◌, true};
 ghost use Rattle.reading_laws.specs.Ahead.{FirstFaultDoesNotLookAhead};
 ghost use Rattle.reading_laws.specs.Exact.{ReadingIsExact};

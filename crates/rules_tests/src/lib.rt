@@ -1,4 +1,5 @@
 //! Examples of rules and of the types that they give.
+#![tactic(auto)]
 
 #[cfg(test)]
 mod tests {

@@ -1,4 +1,6 @@
 //! Uses drafts. What a user may not do with their tokens, the prover refuses: see must-fail/.
+#![tactic(auto)]
+
 ghost use Rattle.slips.specs.Policies.{Alone, Opened, Beside};
 
 use draft::draft::Draft;

@@ -1,4 +1,6 @@
 //! What the tables that a text gives can be relied on for.
+#![tactic(auto)]
+
 ghost use Rattle.std.specs.Prelude.{◌≡◌, ℕ, List};
 ghost use Rattle.reader.specs.Composed.{Composed, nothing};
 ghost use Rattle.reader.specs.Reading.{read, tables};

@@ -1,4 +1,5 @@
 //! Tests of both makes of store, through one table of calls.
+#![tactic(auto)]
 
 #[cfg(test)]
 mod tests {
@@ -121,20 +122,20 @@ mod tests {
         (Call::Get(2, 64), Answer::Present(64, 7, true)),
     ];
 
-    fn run_table<S: Store>(rt: &impl Abort, store: &mut S) -> Result<(), Fail> {
+    fn run_table<S: Store>(rt: &impl Abort, store: &mut S, make: &str) {
         for (call, expected) in TABLE {
-            assert_eq!(rt; perform(store, call), expected);
+            assert_eq!(rt; perform(store, call), expected, "{make}");
         }
-        Ok(())
     }
 
     #[test]
     fn both_makes_answer_alike(rt: HostRuntime) -> Result<(), Fail> {
         let heap = rt.alloc();
         let mut slot = SlotStore::fresh(vec![in heap; 9; 195]?);
-        run_table(&rt, &mut slot).note("slot store")?;
+        run_table(&rt, &mut slot, "slot store");
         let mut packed = PackedStore::fresh(vec![in heap; 9; 198]?);
-        run_table(&rt, &mut packed).note("packed store")
+        run_table(&rt, &mut packed, "packed store");
+        Ok(())
     }
 
     #[test]
@@ -233,15 +234,9 @@ mod tests {
     }
 
     // That what was refused is the memory that was handed in.
-    fn check_returned(
-        rt: &impl Abort,
-        memory: Vec<u8>,
-        front: &[u8],
-        length: usize,
-    ) -> Result<(), Fail> {
-        assert_eq!(rt; memory.len(), length);
-        assert!(rt; begins_with(front, memory.as_slice()));
-        Ok(())
+    fn check_returned(rt: &impl Abort, memory: Vec<u8>, front: &[u8], length: usize, why: &str) {
+        assert_eq!(rt; memory.len(), length, "{why}");
+        assert!(rt; begins_with(front, memory.as_slice()), "{why}");
     }
 
     fn check_packed_refused(
@@ -249,12 +244,14 @@ mod tests {
         heap: Global,
         front: &[u8],
         length: usize,
+        why: &str,
     ) -> Result<(), Fail> {
         match PackedStore::open(image(heap, front, length)?) {
-            Ok(_) => Err(Fail::new("damaged memory was opened")),
+            Ok(_) => Err(Fail::new(format_args!("{why}: damaged memory was opened"))),
             Err(e) => {
                 let NotAStore { memory } = e;
-                check_returned(rt, memory, front, length)
+                check_returned(rt, memory, front, length, why);
+                Ok(())
             }
         }
     }
@@ -262,13 +259,19 @@ mod tests {
     #[test]
     fn damaged_records_are_refused(rt: HostRuntime) -> Result<(), Fail> {
         let heap = rt.alloc();
-        check_packed_refused(&rt, heap, &[0, 65, 255], 132).note("more than 64 bytes")?;
-        check_packed_refused(&rt, heap, &[1, 0, 0, 0, 255], 132).note("a falling place")?;
-        check_packed_refused(&rt, heap, &[1, 0, 1, 0, 255], 132).note("a place twice")?;
-        check_packed_refused(&rt, heap, &[0, 0, 2, 0, 255], 132).note("a place beyond the places")?;
-        check_packed_refused(&rt, heap, &[0, 1, 7, 254], 132).note("no end")?;
-        check_packed_refused(&rt, heap, &[0], 1).note("a byte and no place")?;
-        check_packed_refused(&rt, heap, &[0, 64, 7], 65).note("a record and no place")
+        check_packed_refused(&rt, heap, &[0, 65, 255], 132, "more than 64 bytes")?;
+        check_packed_refused(&rt, heap, &[1, 0, 0, 0, 255], 132, "a falling place")?;
+        check_packed_refused(&rt, heap, &[1, 0, 1, 0, 255], 132, "a place twice")?;
+        check_packed_refused(
+            &rt,
+            heap,
+            &[0, 0, 2, 0, 255],
+            132,
+            "a place beyond the places",
+        )?;
+        check_packed_refused(&rt, heap, &[0, 1, 7, 254], 132, "no end")?;
+        check_packed_refused(&rt, heap, &[0], 1, "a byte and no place")?;
+        check_packed_refused(&rt, heap, &[0, 64, 7], 65, "a record and no place")
     }
 
     #[test]
@@ -297,7 +300,8 @@ mod tests {
             Ok(_) => Err(Fail::new("damaged memory was opened")),
             Err(e) => {
                 let NotAStore { memory } = e;
-                check_returned(&rt, memory, &[66], 130)
+                check_returned(&rt, memory, &[66], 130, "a mark above 65");
+                Ok(())
             }
         }
     }

@@ -1,4 +1,4 @@
-use Rattle.std.proofs.Common.{◌≡◌, Some, None, Ok, sym, ap}
+use Rattle.std.proofs.Common.{Some, None, Ok, sym, ap}
 use Rattle.reader.specs.Statements.{then}
 use Rattle.label.specs.declared.numbers.Dom.{Dom}
 use Rattle.reader.proofs.Looks.{no_name, a_name}
