@@ -1,7 +1,7 @@
 -- The row of a node leads to what it is linked to.
 use Rattle.std.proofs.Common.{◌≡◌, ℕ, ◌+◌, ◌-◌, ◌<◌, ◌≤◌, Bool, true, false, ◌||◌, ltb, List, get_or, replicate, sym, ◌∙◌, subst, ⊎_elim, arith}
 use Rattle.std.proofs.lemmas.Bool.{true≢false, and_parts, and_from, or_cases, or_left, or_right, lt-ltb, ltb-true}
-use Rattle.machine.specs.Flow.{Live, live_first, live_pass, Node, obj, dom, number, Change, by-writing, by-appending, by-making, act_of, Link, learns, passes, alters}
+use Rattle.machine.specs.Flow.{Live, live_first, live_pass, Node, obj, dom, number, Change, by_writing, by_appending, by_making, act_of, Link, learns, passes, alters}
 use Rattle.machine.specs.Policy.{Act, reading, writing, appending, making, granted, Policy as Asked}
 use Rattle.flow.specs.declared.chart.Row.{Row}
 use Rattle.flow.specs.Allows.{allowed, changed}
@@ -37,14 +37,14 @@ module _ (P : Asked) where
       (ltb-true o P.objects a.0, (and_parts (ltb d P.domains) _ a.1).1)
 
   changed_from : (how : Change) (d o : ℕ) → allowed P (act_of how) d o ≡ true → changed P d o ≡ true
-  changed_from by-writing d o h = or_left _ _ h
-  changed_from by-appending d o h = or_right (allowed P writing d o) _ (or_left _ _ h)
-  changed_from by-making d o h = or_right (allowed P writing d o) _ (or_right (allowed P appending d o) _ h)
+  changed_from by_writing d o h = or_left _ _ h
+  changed_from by_appending d o h = or_right (allowed P writing d o) _ (or_left _ _ h)
+  changed_from by_making d o h = or_right (allowed P writing d o) _ (or_right (allowed P appending d o) _ h)
 
   changed-parts : (d o : ℕ) → changed P d o ≡ true → (how : Change) × (allowed P (act_of how) d o ≡ true)
   changed-parts d o h =
-      ⊎_elim (λ w. (by-writing, w))
-      (λ x. ⊎_elim (λ a. (by-appending, a)) (λ c. (by-making, c)) (or_cases (allowed P appending d o) (allowed P making d o) x))
+      ⊎_elim (λ w. (by_writing, w))
+      (λ x. ⊎_elim (λ a. (by_appending, a)) (λ c. (by_making, c)) (or_cases (allowed P appending d o) (allowed P making d o) x))
       (or_cases (allowed P writing d o) (allowed P appending d o || allowed P making d o) h)
 
   module _ (live : List Bool) (alive : Alive P live) (few : P.domains ≤ 32) where

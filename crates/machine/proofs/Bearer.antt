@@ -10,7 +10,7 @@ use Rattle.machine.specs.Checks.{refusal}
 use Rattle.machine.specs.Effects.{change, reply_read, reply_run, reply, moved}
 use Rattle.machine.specs.Series.{Entry, turn}
 use Rattle.machine.specs.Possible.{PossiblePlace}
-use Rattle.machine.specs.Flow.{Live, Node, obj, dom, Change, by-writing, by-appending, by-making, act_of, Link, learns, passes, alters, Walk, here, on, Objects, Chain}
+use Rattle.machine.specs.Flow.{Live, Node, obj, dom, Change, by_writing, by_appending, by_making, act_of, Link, learns, passes, alters, Walk, here, on, Objects, Chain}
 use Rattle.machine.specs.Separation.{AlikeOutside, Separated}
 use Rattle.machine.specs.Recipe.{Recipe, always, if_read_empty, reads_empty, has_read_empty, rule_of}
 use Rattle.machine.specs.Leak.{drive, quiet, telling, Carried, seat_of, Reached, hand_over, forward, carried, finished, first_beginning, second_beginning, leak_lines, leak_series, Leaks, PlainCall, PlainRecipe}
@@ -28,9 +28,9 @@ seats_differ false e = omega arith
 -- ── The two calls that a way to change an object gives ──
 
 quiet_keeps_empty : (how : Change) (o : ℕ) → change (quiet how o) (Some []) ≡ Some []
-quiet_keeps_empty by-writing o = refl
-quiet_keeps_empty by-appending o = refl
-quiet_keeps_empty by-making o = refl
+quiet_keeps_empty by_writing o = refl
+quiet_keeps_empty by_appending o = refl
+quiet_keeps_empty by_making o = refl
 
 appended_is_not_empty : (b : Bytes) → reads_empty (reply_read (change (append 0 (1 ∷ [])) (Some b))) ≡ false
 appended_is_not_empty [] = refl
@@ -38,15 +38,15 @@ appended_is_not_empty (x ∷ b) = refl
 
 telling_is_not_empty : (how : Change) (o : ℕ) (v : Option Bytes) → Present v → reads_empty (reply_read (change (telling how o) v)) ≡ false
 telling_is_not_empty how o None p = absurd p
-telling_is_not_empty by-writing o (Some b) p = refl
-telling_is_not_empty by-appending o (Some b) p = appended_is_not_empty b
-telling_is_not_empty by-making o (Some b) p = refl
+telling_is_not_empty by_writing o (Some b) p = refl
+telling_is_not_empty by_appending o (Some b) p = appended_is_not_empty b
+telling_is_not_empty by_making o (Some b) p = refl
 
 quiet_mends : (how : Change) (o : ℕ) (v : Option Bytes) → Present v → Present (change (quiet how o) (change (telling how o) v))
 quiet_mends how o None p = absurd p
-quiet_mends by-writing o (Some b) p = tt
-quiet_mends by-appending o (Some b) p = tt
-quiet_mends by-making o (Some b) p = tt
+quiet_mends by_writing o (Some b) p = tt
+quiet_mends by_appending o (Some b) p = tt
+quiet_mends by_making o (Some b) p = tt
 
 module _ (P : Policy) where
   -- the call c is one on o that is admitted from D and leaves the seat there
@@ -56,24 +56,24 @@ module _ (P : Policy) where
     stays : (v : Option Bytes) → moved P D v c ≡ D
 
   quiet_ink : (D o : ℕ) (how : Change) → o < P.objects → granted P (act_of how) D o ≡ true → Ink D o (quiet how o)
-  quiet_ink D o by-writing lt q = record { on_it = refl; free = admit P D (write o []) lt (omega arith) refl (omega arith) q refl; stays = λ v. refl }
-  quiet_ink D o by-appending lt q = record { on_it = refl; free = admit P D (append o []) lt (omega arith) refl (omega arith) q refl; stays = λ v. refl }
-  quiet_ink D o by-making lt q = record { on_it = refl; free = admit P D (create o) lt (omega arith) refl (omega arith) q refl; stays = λ v. refl }
+  quiet_ink D o by_writing lt q = record { on_it = refl; free = admit P D (write o []) lt (omega arith) refl (omega arith) q refl; stays = λ v. refl }
+  quiet_ink D o by_appending lt q = record { on_it = refl; free = admit P D (append o []) lt (omega arith) refl (omega arith) q refl; stays = λ v. refl }
+  quiet_ink D o by_making lt q = record { on_it = refl; free = admit P D (create o) lt (omega arith) refl (omega arith) q refl; stays = λ v. refl }
 
   telling_ink : (D o : ℕ) (how : Change) → o < P.objects → granted P (act_of how) D o ≡ true → Ink D o (telling how o)
-  telling_ink D o by-writing lt q = record { on_it = refl; free = admit P D (write o (1 ∷ [])) lt (omega arith) refl (omega arith) q refl; stays = λ v. refl }
-  telling_ink D o by-appending lt q = record { on_it = refl; free = admit P D (append o (1 ∷ [])) lt (omega arith) refl (omega arith) q refl; stays = λ v. refl }
-  telling_ink D o by-making lt q = record { on_it = refl; free = admit P D (remove o) lt (omega arith) refl (omega arith) q refl; stays = λ v. refl }
+  telling_ink D o by_writing lt q = record { on_it = refl; free = admit P D (write o (1 ∷ [])) lt (omega arith) refl (omega arith) q refl; stays = λ v. refl }
+  telling_ink D o by_appending lt q = record { on_it = refl; free = admit P D (append o (1 ∷ [])) lt (omega arith) refl (omega arith) q refl; stays = λ v. refl }
+  telling_ink D o by_making lt q = record { on_it = refl; free = admit P D (remove o) lt (omega arith) refl (omega arith) q refl; stays = λ v. refl }
 
   quiet_plain : (how : Change) (o : ℕ) → o < P.objects → PlainCall P (quiet how o)
-  quiet_plain by-writing o lt = record { hands_bytes = tt; names_object = lt; wishes_domain = refl; has_room = refl }
-  quiet_plain by-appending o lt = record { hands_bytes = tt; names_object = lt; wishes_domain = refl; has_room = refl }
-  quiet_plain by-making o lt = record { hands_bytes = tt; names_object = lt; wishes_domain = refl; has_room = refl }
+  quiet_plain by_writing o lt = record { hands_bytes = tt; names_object = lt; wishes_domain = refl; has_room = refl }
+  quiet_plain by_appending o lt = record { hands_bytes = tt; names_object = lt; wishes_domain = refl; has_room = refl }
+  quiet_plain by_making o lt = record { hands_bytes = tt; names_object = lt; wishes_domain = refl; has_room = refl }
 
   telling_plain : (how : Change) (o : ℕ) → o < P.objects → PlainCall P (telling how o)
-  telling_plain by-writing o lt = record { hands_bytes = (lit< tt, tt); names_object = lt; wishes_domain = refl; has_room = refl }
-  telling_plain by-appending o lt = record { hands_bytes = (lit< tt, tt); names_object = lt; wishes_domain = refl; has_room = refl }
-  telling_plain by-making o lt = record { hands_bytes = tt; names_object = lt; wishes_domain = refl; has_room = refl }
+  telling_plain by_writing o lt = record { hands_bytes = (lit< tt, tt); names_object = lt; wishes_domain = refl; has_room = refl }
+  telling_plain by_appending o lt = record { hands_bytes = (lit< tt, tt); names_object = lt; wishes_domain = refl; has_room = refl }
+  telling_plain by_making o lt = record { hands_bytes = tt; names_object = lt; wishes_domain = refl; has_room = refl }
 
   -- Acted, with the object named
   acted_at : (s t : State) (k d : ℕ) (l : List Answer) (c : Call) (o : ℕ) → object c ≡ o → Acted P s t k d l c → t.contents o ≡ change c (s.contents o)

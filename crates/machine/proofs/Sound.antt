@@ -10,7 +10,7 @@ use Rattle.machine.specs.Checks.{refusal}
 use Rattle.machine.specs.Effects.{change, changed, or_stay, target, reply_read, reply_run, reply, if_present, moved}
 use Rattle.machine.specs.Machine.{outcome, call_at, call, fresh, start_seat}
 use Rattle.machine.specs.Series.{Rule, Entry, start, turn, Series, step, after}
-use Rattle.machine.specs.Flow.{Live, live_first, live_pass, Node, obj, dom, Change, by-writing, by-appending, by-making, act_of, Link, learns, passes, alters, Walk, here, on, Objects, NoChain}
+use Rattle.machine.specs.Flow.{Live, live_first, live_pass, Node, obj, dom, Change, by_writing, by_appending, by_making, act_of, Link, learns, passes, alters, Walk, here, on, Objects, NoChain}
 use Rattle.machine.specs.Separation.{AlikeOutside, SeparatedFreely}
 use Rattle.machine.proofs.Checks.{place_discrete, stable, cond_same, put_same, put_other, Admitted, admitted}
 
@@ -122,10 +122,10 @@ module _ (P : Policy) where
 
     hot_changed : (m : Contents) (d : ℕ) (c : Call) → Live P d → ¬ ¬ Reach (dom d) → Admitted P d c → Agree (changed m c) m
     hot_changed m d (read i n) L hot p o lt h = cond_same (eqb o i) (m o)
-    hot_changed m d (write i bytes) L hot p o lt h = hot_misses m (write i bytes) d by-writing L hot p.grant o lt h (eqb o i) refl
-    hot_changed m d (append i bytes) L hot p o lt h = hot_misses m (append i bytes) d by-appending L hot p.grant o lt h (eqb o i) refl
-    hot_changed m d (create i) L hot p o lt h = hot_misses m (create i) d by-making L hot p.grant o lt h (eqb o i) refl
-    hot_changed m d (remove i) L hot p o lt h = hot_misses m (remove i) d by-making L hot p.grant o lt h (eqb o i) refl
+    hot_changed m d (write i bytes) L hot p o lt h = hot_misses m (write i bytes) d by_writing L hot p.grant o lt h (eqb o i) refl
+    hot_changed m d (append i bytes) L hot p o lt h = hot_misses m (append i bytes) d by_appending L hot p.grant o lt h (eqb o i) refl
+    hot_changed m d (create i) L hot p o lt h = hot_misses m (create i) d by_making L hot p.grant o lt h (eqb o i) refl
+    hot_changed m d (remove i) L hot p o lt h = hot_misses m (remove i) d by_making L hot p.grant o lt h (eqb o i) refl
     hot_changed m d (run i w n) L hot p o lt h = cond_same (eqb o i) (m o)
 
     outcome_hot : (st : State) (k d : ℕ) (l : List Answer) (c : Call) (a : Option Refusal) → refusal P d c ≡ a → Live P d → ¬ ¬ Reach (dom d) →

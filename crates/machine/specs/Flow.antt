@@ -18,12 +18,12 @@ number (dom d) = 128 + d
 
 -- the ways to change an object
 pub data Change : Type 0 where
-  by-writing by-appending by-making : Change
+  by_writing by_appending by_making : Change
 
 abbrev pub act_of : Change → Act
-act_of by-writing = writing
-act_of by-appending = appending
-act_of by-making = making
+act_of by_writing = writing
+act_of by_appending = appending
+act_of by_making = making
 
 -- One link, always of a live domain d: it learns of an object that it may read (r or x); it passes to another domain, by some object;
 -- it alters an object that it may change (w, a or c).

@@ -12,7 +12,7 @@ use Rattle.machine.specs.State.{Contents, loaded}
 use Rattle.machine.specs.Checks.{wish_is_domain}
 use Rattle.machine.specs.Series.{Entry, start, turn, Series, after, told}
 use Rattle.machine.specs.Possible.{Possible, PossibleCall, PossibleSeries}
-use Rattle.machine.specs.Flow.{Live, live_first, live_pass, Node, obj, dom, Change, by-writing, by-appending, by-making, Link, learns, passes, alters, Walk, here, on, Objects, Chain}
+use Rattle.machine.specs.Flow.{Live, live_first, live_pass, Node, obj, dom, Change, by_writing, by_appending, by_making, Link, learns, passes, alters, Walk, here, on, Objects, Chain}
 use Rattle.machine.specs.Separation.{Alike, AlikeOutside}
 use Rattle.machine.specs.Recipe.{Recipe, always, if_read_empty, series_of}
 
@@ -25,15 +25,15 @@ drive (live_pass {e = e} o L q) k = drive L k ++ (turn k (always (run o (Some e)
 
 -- for each way to change an object: a call that leaves an empty object empty, and makes one that was told by present ..
 abbrev pub quiet : Change → ℕ → Call
-quiet by-writing o = write o []
-quiet by-appending o = append o []
-quiet by-making o = create o
+quiet by_writing o = write o []
+quiet by_appending o = append o []
+quiet by_making o = create o
 
 -- .. and a call that tells, since a present object is not empty after it
 abbrev pub telling : Change → ℕ → Call
-telling by-writing o = write o (1 ∷ [])
-telling by-appending o = append o (1 ∷ [])
-telling by-making o = remove o
+telling by_writing o = write o (1 ∷ [])
+telling by_appending o = append o (1 ∷ [])
+telling by_making o = remove o
 
 -- the lines so far, and who bears the leak: the second seat, or the first
 pub record Carried : Type 0 where

@@ -4,7 +4,7 @@ use Rattle.std.proofs.Common.{sym, true≢false, arith, lit<}
 use Rattle.machine.specs.Policy.{Policy, Act, reading, writing, appending, making, running}
 use Rattle.machine.specs.Calls.{read, write}
 use Rattle.machine.specs.Series.{start, turn}
-use Rattle.machine.specs.Flow.{live_first, by-writing, learns, alters, here, on, Chain, of_type}
+use Rattle.machine.specs.Flow.{live_first, by_writing, learns, alters, here, on, Chain, of_type}
 use Rattle.machine.specs.Separation.{TypesSeparated}
 use Rattle.machine.specs.Recipe.{always, if_read_empty}
 use Rattle.machine.specs.Leak.{leak_lines}
@@ -53,7 +53,7 @@ through =
       to_is = lit< tt;
       from_in = refl;
       to_in = refl;
-      walk = on (on here (learns live_first (lit< tt) refl)) (alters by-writing live_first (lit< tt) refl);
+      walk = on (on here (learns live_first (lit< tt) refl)) (alters by_writing live_first (lit< tt) refl);
     }
 
 -- what type 1 holds cannot be told from type 0; what type 0 holds can be told from type 1, and here is how
