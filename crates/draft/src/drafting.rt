@@ -70,7 +70,7 @@ impl Draft {
                 self.tried = Some(composed);
                 self.phase = Phase::Trial;
                 let Rest(_) = rest;
-                Ok(Trial(()))
+                Ok(Trial { spent: false })
             }
             Err(failure) => Err((rest, failure)),
         }

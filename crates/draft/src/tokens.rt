@@ -1,5 +1,5 @@
 //! Tokens beside a draft: each stands for the phase that the draft is in, and cannot be made elsewhere.
-ghost use Rattle.std.specs.Prelude.{◌≡◌};
+ghost use Rattle.std.specs.Prelude.{◌≡◌, IsTrue};
 
 // The draft has no module yet.
 pub struct Blank(pub(crate) ());
@@ -7,20 +7,22 @@ pub struct Blank(pub(crate) ());
 // The draft is at rest: a module can be tried, or the draft sealed.
 pub struct Rest(pub(crate) ());
 
-// A module is on trial. It has to be kept or withdrawn: no caller can meet what letting the token go asks.
-pub struct Trial(pub(crate) ());
+// A module is on trial. It has to be kept or withdrawn: only a spent token may be let go, and no caller can show that theirs is spent.
+pub struct Trial {
+    pub(crate) spent: bool,
+}
 
 impl Drop for Trial {
     fn drop(self)
-        requires { ⊥ }
+        requires { IsTrue self.spent }
     {
-        let Trial(_) = self;
+        let Trial { spent: _ } = self;
     }
 }
 
 impl Trial {
-    pub(crate) fn spend(self) {
-        let Trial(_) = self;
+    pub(crate) fn spend(mut self) {
+        self.spent = true;
     }
 }
 
