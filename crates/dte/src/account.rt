@@ -1,5 +1,6 @@
 // What a policy decides, written out for people.
-use crate::names::{flag_text, name_text};
+use crate::names::flag_text;
+use label::name::Name;
 use label::numbers::{Dom, Obj, Typ};
 use label::path::Path;
 use label::refusal::Refusal;
@@ -14,10 +15,18 @@ const PATHS: [&str; 5] = ["/", "/bin", "/log", "/limits", "/log/day/noon"];
 // A domain asks for a letter on an object.
 const ASKED: [(u8, u8, char); 3] = [(2, 2, 'r'), (1, 0, 'x'), (1, 3, 'w')];
 
+// The name of the type with this number; a dash for what has none.
+fn write_name(rt: &HostRuntime, names: &[Name], number: u8) -> io::Result<()> {
+    match names.get(number as usize) {
+        Some(name) => print!(rt; "{name:<7} "),
+        None => print!(rt; "{:<7} ", "-"),
+    }
+}
+
 pub(crate) fn write_type(rt: &HostRuntime, policy: &Policy, path: &Path) -> io::Result<()> {
     let Typ(number) = policy.type_of(path);
     print!(rt; "  {path:<14} ")?;
-    print!(rt; "{:<7} ", name_text(policy.tables().types(), number))?;
+    write_name(rt, policy.tables().types(), number)?;
     match policy.tables().rules().deciding(path.as_bytes()) {
         Some(rule) => {
             let flag = flag_text(rule.flag);

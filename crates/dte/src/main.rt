@@ -3,6 +3,8 @@
 #![tactic(auto)]
 
 use anyhow::anyhow;
+use draft::fault::Failure;
+use label::refusal::Refusal;
 use std::env;
 use std::process::ExitCode;
 
@@ -29,7 +31,8 @@ fn write_example(rt: &HostRuntime) -> anyhow::Result<()> {
             account::write(rt, policy.decisions())?;
             Ok(())
         }
-        Err(_) => Err(anyhow!("the example policy is refused")),
+        Err(Failure::Memory) => Err(Refusal::Memory.into()),
+        Err(Failure::Faulty(_)) => Err(anyhow!("the example policy is refused")),
     }
 }
 
