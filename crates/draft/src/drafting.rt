@@ -1,5 +1,5 @@
 //! Trying, keeping and withdrawing modules, and sealing.
-ghost use Rattle.std.specs.Prelude.{◌≡◌, Some};
+ghost use Rattle.std.specs.Prelude.{◌≡◌, false, Some, IfOk};
 ghost use Rattle.std.specs.Option.{option_map};
 ghost use Rattle.flow.specs.Charts.{Charts};
 ghost use Rattle.policy.specs.Abstract.{asked};
@@ -63,7 +63,8 @@ impl Draft {
         text: &[u8],
     ) -> Result<Trial, (Rest, Failure)>
         requires { self.old.phase ≡ Phase.Rest }
-        ensures { Tries text.now (view self.old) result (view self.new) }
+        ensures tries { Tries text.now (view self.old) result (view self.new) }
+        ensures unspent { IfOk result (λ trial. trial.spent ≡ false) }
     {
         match compose(heap, self.modules, &self.kept, text) {
             Ok(composed) => {

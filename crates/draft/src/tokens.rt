@@ -7,7 +7,7 @@ pub struct Blank(pub(crate) ());
 // The draft is at rest: a module can be tried, or the draft sealed.
 pub struct Rest(pub(crate) ());
 
-// A module is on trial. It has to be kept or withdrawn: only a spent token may be let go, and no caller can show that theirs is spent.
+// A module is on trial. It has to be kept or withdrawn: only a spent token may be let go, and the one that a caller is given is not spent.
 pub struct Trial {
     pub(crate) spent: bool,
 }

@@ -8,4 +8,4 @@ pub returns-in-Err-try_module : goal.returns-in-Err-try_module
 returns-in-Err-try_module c =
     let opened = c.in-Ok.ensures in
     second opened.0 opened.1.0
-    (subst (λ (v : View). Composes v.modules (base v.kept) c.args.extra.now (Err c.in-Err-try_module.failure)) opened.1.1 c.in-Err-try_module.ensures.0)
+    (subst (λ (v : View). Composes v.modules (base v.kept) c.args.extra.now (Err c.in-Err-try_module.failure)) opened.1.1 c.in-Err-try_module.ensures.tries.0)
