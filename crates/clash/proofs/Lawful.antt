@@ -14,7 +14,7 @@ use Rattle.tables.specs.declared.holding.Passage.TheVariants.{Auto}
 use Rattle.policy.specs.Grants.{path_of}
 use Rattle.policy.specs.Lowest.{lowest}
 use Rattle.policy.specs.LowestLaws.{none_passes, none-lowest, is_lowest}
-use Rattle.policy.specs.PassageLaws.{pass-parts, pass_from, pass_to}
+use Rattle.policy.specs.PassageLaws.{pass_parts, pass_from, pass_to}
 use Rattle.policy.specs.Passages.{leads, runs, pass, target, auto}
 use Rattle.clash.specs.Clashes.{shared_by, shares, clashing, second, first, clashed, pair_from, pair_of, clash}
 use Rattle.clash.specs.Laws.{Clash, Clear, LowestClash, Laws}
@@ -61,8 +61,8 @@ module _ (m : Model) (d : ℕ) where
       let q = and_parts (listed (holding_of m d) Auto f) (enters m.entries f c.path) c.to_second in
       and_from _ _ (path_shared m.entries m.entries e f c.path p.1 q.1) (and_from _ _ p.0 q.0)
 
-  clash-turned : (e f : ℕ) → Clash m d e f → Clash m d f e
-  clash-turned e f c = record { path = c.path; to_first = c.to_second; to_second = c.to_first }
+  clash_turned : (e f : ℕ) → Clash m d e f → Clash m d f e
+  clash_turned e f c = record { path = c.path; to_first = c.to_second; to_second = c.to_first }
 
   no_second : (e : ℕ) → is_some (second m d e) ≡ false → (f : ℕ) → e < f → f < length m.domains → Clash m d e f → ⊥
   no_second e h f l lf c =
@@ -77,7 +77,7 @@ module _ (m : Model) (d : ℕ) where
   no_first_clear : is_some (first m d) ≡ false → Clear m d
   no_first_clear h e f le lf c =
       ⊎_elim (λ same. same)
-      (λ apart. absurd (⊎_elim (λ l. no_first_no_pair h e f l lf c) (λ l. no_first_no_pair h f e l le (clash-turned e f c)) apart))
+      (λ apart. absurd (⊎_elim (λ l. no_first_no_pair h e f l lf c) (λ l. no_first_no_pair h f e l le (clash_turned e f c)) apart))
       (cases_order e f)
 
   clear_no_first : Clear m d → is_some (first m d) ≡ false
@@ -135,8 +135,8 @@ module _ (m : Model) where
   by_domain e f None is h = absurd (let z : ◌≡◌ {A = ℕ} 0 1 = cc in omega arith)
   by_domain e f (Some d) is h = by_first d e f (first m d) is refl h
 
-  named-lowest : (e f : ℕ) → Named e f → LowestClash m e f
-  named-lowest e f n =
+  named_lowest : (e f : ℕ) → Named e f → LowestClash m e f
+  named_lowest e f n =
       let d = n.dom in
       let D = is_lowest (λ k. is_some (first m k)) (length m.domains) d n.dom_is in
       let E = is_lowest (λ k. is_some (second m d k)) (length m.domains) e n.first_is in
@@ -167,21 +167,21 @@ module _ (m : Model) where
             (cases_order e x);
       }
 
-only-target : (m : Model) (d e : ℕ) (p : List ℕ) (o : Option ℕ) → Clear m d → e < length m.domains → leads m d p e ≡ true → lowest (leads m d p) (length m.domains) ≡ o → option_map (λ x. x.0) (option_map {U = Dom} (λ k. record { 0 = k }) o) ≡ Some e
-only-target m d e p None clear le h is = absurd (true≢false (sym h ∙ none_passes (leads m d p) (length m.domains) is e le))
-only-target m d e p (Some k) clear le h is =
+only_target : (m : Model) (d e : ℕ) (p : List ℕ) (o : Option ℕ) → Clear m d → e < length m.domains → leads m d p e ≡ true → lowest (leads m d p) (length m.domains) ≡ o → option_map (λ x. x.0) (option_map {U = Dom} (λ k. record { 0 = k }) o) ≡ Some e
+only_target m d e p None clear le h is = absurd (true≢false (sym h ∙ none_passes (leads m d p) (length m.domains) is e le))
+only_target m d e p (Some k) clear le h is =
     let K = is_lowest (leads m d p) (length m.domains) k is in
     ap Some (clear k e K.below le (record { path = p; to_first = K.passes; to_second = h }))
 
 auto_taken : (m : Model) (d o e : ℕ) → clash m ≡ None → pass m d o e ≡ true → leads m d (path_of m o) e ≡ true → option_map (λ x. x.0) (auto m d o) ≡ Some e
 unfolding auto
 auto_taken m d o e none h l =
-    ap (option_map (λ x. x.0)) (cond-true (runs m d o) (target m d (path_of m o)) None (pass-parts m d o e h).0)
-    ∙ only-target m d e (path_of m o) _ (none_clear m none d (pass_from m d o e h)) (pass_to m d o e h) l refl
+    ap (option_map (λ x. x.0)) (cond-true (runs m d o) (target m d (path_of m o)) None (pass_parts m d o e h).0)
+    ∙ only_target m d e (path_of m o) _ (none_clear m none d (pass_from m d o e h)) (pass_to m d o e h) l refl
 
 pub laws : Laws
 laws = record {
   none = λ m. (none_clear m, clear_none m);
-  some = λ m e f h. named-lowest m e.0 f.0 (by_domain m e f (clashed m) refl h);
+  some = λ m e f h. named_lowest m e.0 f.0 (by_domain m e f (clashed m) refl h);
   auto_taken = auto_taken;
 }

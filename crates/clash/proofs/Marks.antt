@@ -37,31 +37,31 @@ module _ (xs : List Entry) (i : ℕ) (x : Entry) (l : i < length xs) (is : x ≡
         (λ (here : f ≡ x.dom.0).
         let new : marked (record { 0 = set row.0 x.dom.0 true }) f ≡ true =
         ap (λ k. get_or (set row.0 x.dom.0 true) k false) here ∙ get_or-set_same row.0 x.dom.0 true false (omega (arith, len, lt)) in
-        let for-it : is_for x f p ≡ true = and_from _ _ (eq-eqb x.dom.0 f (sym here)) ((bytes_eq-Decides (text x.path) p).1 same) in
+        let for_it : is_for x f p ≡ true = and_from _ _ (eq-eqb x.dom.0 f (sym here)) ((bytes_eq-Decides (text x.path) p).1 same) in
         or_left _ _ new
-        ∙ sym (or_right (marked row f) (enters (drop i xs) f p) (enters_next f ∙ or_left _ _ for-it))
+        ∙ sym (or_right (marked row f) (enters (drop i xs) f p) (enters_next f ∙ or_left _ _ for_it))
         ∙ inv f a h)
         (λ (other : f ≡ x.dom.0 → ⊥).
         let old : marked (record { 0 = set row.0 x.dom.0 true }) f ≡ marked row f = get_or-set_other row.0 x.dom.0 f true false other in
-        let not-for : is_for x f p ≡ false = and_left _ _ (ne_eqb x.dom.0 f (λ q. other (sym q))) in
+        let not_for : is_for x f p ≡ false = and_left _ _ (ne_eqb x.dom.0 f (λ q. other (sym q))) in
         ap (λ b. b || enters (drop (i + 1) xs) f p) old
-        ∙ ap (λ b. marked row f || b) (sym (enters_next f ∙ ap (λ b. b || enters (drop (i + 1) xs) f p) not-for))
+        ∙ ap (λ b. marked row f || b) (sym (enters_next f ∙ ap (λ b. b || enters (drop (i + 1) xs) f p) not_for))
         ∙ inv f a h)
         (cases_eq f x.dom.0)
 
-    not-marked : ((f : ℕ) → e < f → f < 32 → is_for x f p ≡ false) → Marking xs e p (i + 1) before row
-    not-marked none f a h =
+    not_marked : ((f : ℕ) → e < f → f < 32 → is_for x f p ≡ false) → Marking xs e p (i + 1) before row
+    not_marked none f a h =
         ap (λ b. marked row f || b) (sym (enters_next f ∙ ap (λ b. b || enters (drop (i + 1) xs) f p) (none f a h)))
         ∙ inv f a h
 
     pub beyond : 32 ≤ x.dom.0 → Marking xs e p (i + 1) before row
-    beyond ge = not-marked (λ f a h. and_left _ _ (ne_eqb x.dom.0 f (λ q. omega (arith, q, ge, h))))
+    beyond ge = not_marked (λ f a h. and_left _ _ (ne_eqb x.dom.0 f (λ q. omega (arith, q, ge, h))))
 
-    pub not-above : x.dom.0 ≤ e → Marking xs e p (i + 1) before row
-    not-above le = not-marked (λ f a h. and_left _ _ (ne_eqb x.dom.0 f (λ q. omega (arith, q, le, a))))
+    pub not_above : x.dom.0 ≤ e → Marking xs e p (i + 1) before row
+    not_above le = not_marked (λ f a h. and_left _ _ (ne_eqb x.dom.0 f (λ q. omega (arith, q, le, a))))
 
     pub by_another_path : (text x.path ≡ p → ⊥) → Marking xs e p (i + 1) before row
-    by_another_path differs = not-marked (λ f a h. and_right _ _ apart)
+    by_another_path differs = not_marked (λ f a h. and_right _ _ apart)
       where
         apart : bytes_eq (text x.path) p ≡ false
         apart = elim (bytes_eq (text x.path) p) as (λ b. (b ≡ true → text x.path ≡ p) → b ≡ false) [ true ↦ λ g. absurd (differs (g refl)) | false ↦ λ g. refl ] (bytes_eq-Decides (text x.path) p).0
@@ -85,8 +85,8 @@ module _ (xs : List Entry) (i : ℕ) (x : Entry) (l : i < length xs) (is : x ≡
         ∙ inv f a h
 
 module _ (xs : List Entry) (i : ℕ) (l : length xs ≤ i) where
-  pub all-marked : (e : ℕ) (p : List ℕ) (before row : Row) → Marking xs e p i before row → Entered xs e p before row
-  all-marked e p before row inv f a h =
+  pub all_marked : (e : ℕ) (p : List ℕ) (before row : Row) → Marking xs e p i before row → Entered xs e p before row
+  all_marked e p before row inv f a h =
       sym (or-false (marked row f)) ∙ ap (λ b. marked row f || b) (sym (at_drop_all (λ z. enters z f p) xs i l)) ∙ inv f a h
 
   pub all_gathered : (e : ℕ) (row : Row) → Gathering xs e i row → Sharers xs e row

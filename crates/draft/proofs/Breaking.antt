@@ -37,5 +37,5 @@ module _ (P : Asked) (aparts : List Apart) (d : Apart) where
         chain = c.1;
       }
 
-  pub all-kept : (i : ℕ) → length aparts ≤ i → AllByRecursion (KeptApart P) (take i aparts) → AllByRecursion (KeptApart P) aparts
-  all-kept i l kept = subst (AllByRecursion (KeptApart P)) (take_all i aparts l) kept
+  pub all_kept : (i : ℕ) → length aparts ≤ i → AllByRecursion (KeptApart P) (take i aparts) → AllByRecursion (KeptApart P) aparts
+  all_kept i l kept = subst (AllByRecursion (KeptApart P)) (take_all i aparts l) kept

@@ -29,16 +29,16 @@ answer-allowed p act d o g e =
     ∙ ap (λ x. ltb o (asked p).objects && (ltb d (asked p).domains && is_ok x)) (sym e)
 
 -- one of the letters w, a and c changes an object
-pub answers-changed : (p : Policy) (d o : ℕ) →
+pub answers_changed : (p : Policy) (d o : ℕ) →
     (is_ok (decision (model_of p) d o letter_w) || (is_ok (decision (model_of p) d o letter_a) || is_ok (decision (model_of p) d o letter_c))) ≡ changed (asked p) d o
-answers-changed p d o =
+answers_changed p d o =
     ap (λ b. b || (is_ok (decision (model_of p) d o letter_a) || is_ok (decision (model_of p) d o letter_c))) (answer-allowed p writing d o _ (asks.writes p d o))
     ∙ ap (λ b. allowed (asked p) writing d o || (b || is_ok (decision (model_of p) d o letter_c))) (answer-allowed p appending d o _ (asks.appends p d o))
     ∙ ap (λ b. allowed (asked p) writing d o || (allowed (asked p) appending d o || b)) (answer-allowed p making d o _ (asks.makes p d o))
 
 -- the type of an object
-pub type-told : (p : Policy) (o A : ℕ) → (no_object (model_of p) o ≡ false) → eqb (type_number (model_of p) o) A ≡ within (asked p) (of_type (asked p) A) o
-type-told p o A h =
+pub type_told : (p : Policy) (o A : ℕ) → (no_object (model_of p) o ≡ false) → eqb (type_number (model_of p) o) A ≡ within (asked p) (of_type (asked p) A) o
+type_told p o A h =
     ap (λ n. eqb n A) (sym (asks.typ p o))
     ∙ ap (λ b. b && eqb ((asked p).typ o) A) (sym (lt-ltb o (asked p).objects (rw (asks.objects p) (leb-false _ o h))))
 
@@ -49,5 +49,5 @@ some_is : (d : Dom) (n : ℕ) → ◌≡◌ {A = Option Dom} (Some d) (Some (rec
 some_is d n e = cc
 
 -- the default domain
-pub first-told : (p : Policy) (first : Dom) → Some first ≡ (model_of p).first → first.0 ≡ (asked p).first
-first-told p first e = some_is first (asked p).first (e ∙ sym (asks.first p))
+pub first_told : (p : Policy) (first : Dom) → Some first ≡ (model_of p).first → first.0 ≡ (asked p).first
+first_told p first e = some_is first (asked p).first (e ∙ sym (asks.first p))

@@ -45,7 +45,7 @@ module _ (P : Asked) (chart : Chart) (charts : Charts P chart) (From : Set) (S :
     (sources : (o : ℕ) → o < 128 → S o ≡ within P From o) (no_others : (v : ℕ) → S v ≡ true → v < 128) where
   link_numbered : {x y : Node} → Link P x y → Numbered x × Numbered y
   link_numbered (learns {d = d} {o = o} L l g) = (omega (arith, l, charts.objects_few), omega (arith, live_is P L, charts.domains_few))
-  link_numbered (passes {d = d} {e = e} o L h) = (omega (arith, live_is P L, charts.domains_few), omega (arith, P.pass-domain d o e h, charts.domains_few))
+  link_numbered (passes {d = d} {e = e} o L h) = (omega (arith, live_is P L, charts.domains_few), omega (arith, P.pass_domain d o e h, charts.domains_few))
   link_numbered (alters {d = d} {o = o} how L l g) = (omega (arith, live_is P L, charts.domains_few), omega (arith, l, charts.objects_few))
 
   -- a walk of the policy is one of the table

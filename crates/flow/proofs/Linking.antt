@@ -13,7 +13,7 @@ use Rattle.flow.proofs.Marks.{blank, domains_apart}
 module _ (P : Asked) where
   pub live_is : {d : ℕ} → Live P d → d < P.domains
   live_is live_first = P.first_is
-  live_is (live_pass {d = d} {e = e} o L h) = P.pass-domain d o e h
+  live_is (live_pass {d = d} {e = e} o L h) = P.pass_domain d o e h
 
   -- what a link rests on
   abbrev pub Parts : Node → Node → Type 0
@@ -31,8 +31,8 @@ module _ (P : Asked) where
   allowed_from act d o l m g =
       and_from (ltb o P.objects) _ (lt-ltb o P.objects l) (and_from (ltb d P.domains) _ (lt-ltb d P.domains m) g)
 
-  allowed-parts : (act : Act) (d o : ℕ) → allowed P act d o ≡ true → (o < P.objects) × (granted P act d o ≡ true)
-  allowed-parts act d o h =
+  allowed_parts : (act : Act) (d o : ℕ) → allowed P act d o ≡ true → (o < P.objects) × (granted P act d o ≡ true)
+  allowed_parts act d o h =
       let a = and_parts (ltb o P.objects) _ h in
       (ltb-true o P.objects a.0, (and_parts (ltb d P.domains) _ a.1).1)
 
@@ -41,8 +41,8 @@ module _ (P : Asked) where
   changed_from by_appending d o h = or_right (allowed P writing d o) _ (or_left _ _ h)
   changed_from by_making d o h = or_right (allowed P writing d o) _ (or_right (allowed P appending d o) _ h)
 
-  changed-parts : (d o : ℕ) → changed P d o ≡ true → (how : Change) × (allowed P (act_of how) d o ≡ true)
-  changed-parts d o h =
+  changed_parts : (d o : ℕ) → changed P d o ≡ true → (how : Change) × (allowed P (act_of how) d o ≡ true)
+  changed_parts d o h =
       ⊎_elim (λ w. (by_writing, w))
       (λ x. ⊎_elim (λ a. (by_appending, a)) (λ c. (by_making, c)) (or_cases (allowed P appending d o) (allowed P making d o) x))
       (or_cases (allowed P writing d o) (allowed P appending d o || allowed P making d o) h)
@@ -53,7 +53,7 @@ module _ (P : Asked) where
     object_row o row r (dom d) l = (
       λ h.
           let a = and_parts (get_or live d false) _ (sym (r.domains d l) ∙ h) in
-          let g = allowed-parts reading d o a.1 in
+          let g = allowed_parts reading d o a.1 in
           learns ((alive d l).0 a.0) g.0 g.1,
       λ k.
           let q = parts k in
@@ -63,8 +63,8 @@ module _ (P : Asked) where
     pub live_row : (d : ℕ) (passages row : Row) → P.objects ≤ 128 → Live P d → PassagesOf P d 128 passages → EffectsOf P d passages 128 row → RowOf P (dom d) row
     live_row d passages row small L ps r (obj o) l = (
       λ h.
-          let c = changed-parts d o (sym (r.objects o l) ∙ h) in
-          let g = allowed-parts (act_of c.0) d o c.1 in
+          let c = changed_parts d o (sym (r.objects o l) ∙ h) in
+          let g = allowed_parts (act_of c.0) d o c.1 in
           alters c.0 L g.0 g.1,
       λ k.
           let q = parts k in
@@ -76,7 +76,7 @@ module _ (P : Asked) where
           passes p.by L (subst (λ i. P.pass d p.by i ≡ true) (sym (domains_apart e p.to p.to_is)) p.passes),
       λ k.
           let q = parts k in
-          r.domains (128 + e) (omega arith) ∙ ps.all q.1.0 e (omega (arith, small, P.pass-object d q.1.0 e q.1.1)) q.1.1,
+          r.domains (128 + e) (omega arith) ∙ ps.all q.1.0 e (omega (arith, small, P.pass_object d q.1.0 e q.1.1)) q.1.1,
     )
 
     links_of_live : (d : ℕ) (y : Node) → Parts (dom d) y → Live P d

@@ -17,16 +17,16 @@ record LiveAt (P : Asked) (v : ℕ) : Type 0 where
   live : Live P at
 
 module _ (P : Asked) (objects_few : P.objects ≤ 128) (domains_few : P.domains ≤ 32) (t : Links) (passages : Passages P t) where
-  module _ (S : ℕ → Bool) (first : S (128 + P.first) ≡ true) (first-only : (v : ℕ) → S v ≡ true → v ≡ 128 + P.first) where
+  module _ (S : ℕ → Bool) (first : S (128 + P.first) ≡ true) (first_only : (v : ℕ) → S v ≡ true → v ≡ 128 + P.first) where
     live_found : {e : ℕ} → Live P e → (e < 32) × ((n : ℕ) × Walk S (linked t) n (128 + e))
     live_found live_first = (omega (arith, domains_few, P.first_is), (0, here (omega (arith, domains_few, P.first_is)) first))
     live_found (live_pass {d = d} {e = e} o L h) =
         let r = live_found L in
-        let l : e < 32 = omega (arith, domains_few, P.pass-domain d o e h) in
-        (l, (suc r.1.0, on r.1.1 (omega arith) ((passages d r.0).all o e (omega (arith, objects_few, P.pass-object d o e h)) h)))
+        let l : e < 32 = omega (arith, domains_few, P.pass_domain d o e h) in
+        (l, (suc r.1.0, on r.1.1 (omega arith) ((passages d r.0).all o e (omega (arith, objects_few, P.pass_object d o e h)) h)))
 
     found_live : {n v : ℕ} → Walk S (linked t) n v → LiveAt P v
-    found_live (here {b = v} l s) = record { at = P.first; at_is = first-only v s; few = omega (arith, domains_few, P.first_is); live = live_first }
+    found_live (here {b = v} l s) = record { at = P.first; at_is = first_only v s; few = omega (arith, domains_few, P.first_is); live = live_first }
     found_live (on {b = b} {c = v} w l s) =
         let r = found_live w in
         let p = (passages r.at r.few).sound v (subst (λ k. linked t k v ≡ true) r.at_is s) in

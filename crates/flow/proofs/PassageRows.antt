@@ -45,7 +45,7 @@ module _ (P : Asked) (d : ℕ) where
           sound = λ v h. ⊎_elim (of.sound v) (λ x. x) (by.sound v h);
           all = λ k e l h.
               ⊎_elim
-              (λ same. by.new e (omega (arith, few, P.pass-domain d k e h)) (sym (ap (λ i. P.pass d i e) same) ∙ h))
+              (λ same. by.new e (omega (arith, few, P.pass_domain d k e h)) (sym (ap (λ i. P.pass d i e) same) ∙ h))
               (λ other. by.kept (128 + e) (of.all k e (omega (arith, other)) h))
               (cases_eq k o);
         }
@@ -61,9 +61,9 @@ module _ (P : Asked) (d : ℕ) where
               absurd
               (true≢false
               (sym
-              (and_from (ltb o P.objects) _ (lt-ltb o P.objects (subst (λ i. i < P.objects) same (P.pass-object d k e h)))
+              (and_from (ltb o P.objects) _ (lt-ltb o P.objects (subst (λ i. i < P.objects) same (P.pass_object d k e h)))
               (and_from (ltb d P.domains) _ (lt-ltb d P.domains (from k e h))
-              (P.pass-runs d o e (sym (ap (λ i. P.pass d i e) same) ∙ h))))
+              (P.pass_runs d o e (sym (ap (λ i. P.pass d i e) same) ∙ h))))
               ∙ no_run)))
               (λ other. of.all k e (omega (arith, other)) h)
               (cases_eq k o);

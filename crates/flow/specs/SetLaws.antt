@@ -54,6 +54,6 @@ module _ (P : Asked) (From To From' To' : Set) (from : SameObjects P From From')
   same_search before r after h = same_answered (nat_lt (length before) 160) before r after h
 
 -- so a search between sets that were made by `of_type` is one between types
-pub type-search : (P : Asked) (A B : ℕ) (from to : Objects) → ((o : ℕ) → among from o ≡ within P (of_type P A) o) → ((o : ℕ) → among to o ≡ within P (of_type P B) o) →
+pub type_search : (P : Asked) (A B : ℕ) (from to : Objects) → ((o : ℕ) → among from o ≡ within P (of_type P A) o) → ((o : ℕ) → among to o ≡ within P (of_type P B) o) →
     (before : List ℕ) (r : Result (Option ℕ) Refusal) (after : List ℕ) → Searched P (among from) (among to) before r after → Searched P (of_type P A) (of_type P B) before r after
-type-search P A B from to hf ht = same_search P (among from) (among to) (of_type P A) (of_type P B) (same_within P (among from) (of_type P A) hf) (same_within P (among to) (of_type P B) ht)
+type_search P A B from to hf ht = same_search P (among from) (among to) (of_type P A) (of_type P B) (same_within P (among from) (of_type P A) hf) (same_within P (among to) (of_type P B) ht)

@@ -23,8 +23,8 @@ either u v (inr a) (inl b) = ap (λ x. eqb (bit_or x v) 0) a ∙ ap (λ y. eqb (
 either u v (inr a) (inr b) = ap (λ x. eqb (bit_or x v) 0) a ∙ ap (λ y. eqb (bit_or 1 y) 0) b ∙ sym (ap (λ x. cond (eqb x 0) (eqb v 0) false) a)
 
 module _ (k : ℕ) where
-  meets-digit : (s : ℕ) → eqb (bit_and s (single k)) 0 ≡ eqb (digit k s) 0
-  meets-digit s = ap (λ x. eqb x 0) (and_high s 1 k) ∙ zero_times (digit k s)
+  meets_digit : (s : ℕ) → eqb (bit_and s (single k)) 0 ≡ eqb (digit k s) 0
+  meets_digit s = ap (λ x. eqb x 0) (and_high s 1 k) ∙ zero_times (digit k s)
     where
       zero_times : (n : ℕ) → eqb (n * 2 ^ k) 0 ≡ eqb n 0
       zero_times n =
@@ -41,11 +41,11 @@ module _ (k : ℕ) where
   meets-or : (s t : ℕ) → meets (bit_or s t) (Some (single k)) ≡ (meets s (Some (single k)) || meets t (Some (single k)))
   meets-or s t =
       ap not
-      (meets-digit (bit_or s t)
+      (meets_digit (bit_or s t)
       ∙ ap (λ x. eqb x 0) (digit_or s t)
       ∙ either (digit k s) (digit k t) (two_digits _ (mod-lt (s / 2 ^ k) {m = 2} (omega arith))) (two_digits _ (mod-lt (t / 2 ^ k) {m = 2} (omega arith))))
       ∙ joined (eqb (digit k s) 0) (eqb (digit k t) 0)
-      ∙ sym (ap (λ x. not x || meets t (Some (single k))) (meets-digit s) ∙ ap (λ y. not (eqb (digit k s) 0) || not y) (meets-digit t))
+      ∙ sym (ap (λ x. not x || meets t (Some (single k))) (meets_digit s) ∙ ap (λ y. not (eqb (digit k s) 0) || not y) (meets_digit t))
     where
       joined : (a b : Bool) → not (cond a b false) ≡ (not a || not b)
       joined true b = refl
@@ -56,8 +56,8 @@ abbrev Single : Option ℕ → Type 0
 Single None = Unit {0}
 Single (Some b) = (k : ℕ) × (b ≡ single k)
 
-single-bit : (l : ℕ) → Single (bit l)
-single-bit l =
+single_bit : (l : ℕ) → Single (bit l)
+single_bit l =
     cond_both (eqb l letter_r) _ _ Single (λ _. (0, refl))
     (λ _. cond_both (eqb l letter_w) _ _ Single (λ _. (1, refl))
     (λ _. cond_both (eqb l letter_a) _ _ Single (λ _. (2, refl))
@@ -73,4 +73,4 @@ none_by None = refl
 none_by (Some b) = refl
 
 pub sets : Sets
-sets = record { none_has = λ l. none_by (bit l); union-has = λ s t l. union_by (bit l) (single-bit l) s.bits t.bits }
+sets = record { none_has = λ l. none_by (bit l); union_has = λ s t l. union_by (bit l) (single_bit l) s.bits t.bits }

@@ -32,8 +32,8 @@ cut (c ∷ cs) (suc n) a l e =
     (cases_lt n (length c))
 
 -- the written of the front is a front of the written
-slashed-front : (c : List ℕ) (cs : List (List ℕ)) (d : List ℕ) (ds : List (List ℕ)) → written ((c ∷ cs) ++ d ∷ ds) ≡ written (c ∷ cs) ++ 47 ∷ (d ++ slashed ds)
-slashed-front c cs d ds = slashed-append (c ∷ cs) (d ∷ ds)
+slashed_front : (c : List ℕ) (cs : List (List ℕ)) (d : List ℕ) (ds : List (List ℕ)) → written ((c ∷ cs) ++ d ∷ ds) ≡ written (c ∷ cs) ++ 47 ∷ (d ++ slashed ds)
+slashed_front c cs d ds = slashed-append (c ∷ cs) (d ∷ ds)
 
 component_long : (c : List ℕ) → Component c → 0 < length c
 component_long c n = ⊎_elim (λ l. l) (λ l. absurd (n.some (nil_from_length c (omega arith)))) (cases_lt 0 (length c))
@@ -60,7 +60,7 @@ test_from s n a = go a.front a.components a.whole a.long
         let x : length s ≡ suc (length (a.next ++ slashed a.rest)) = ap length e in
         ancestor_from s n (omega arith) (omega (arith, component_long a.next m.0)) (inl l)
     go (c ∷ cs) m e l =
-        let e' : s ≡ written (c ∷ cs) ++ 47 ∷ (a.next ++ slashed a.rest) = e ∙ slashed-front c cs a.next a.rest in
+        let e' : s ≡ written (c ∷ cs) ++ 47 ∷ (a.next ++ slashed a.rest) = e ∙ slashed_front c cs a.next a.rest in
         let x : length s ≡ length (written (c ∷ cs)) + length (47 ∷ (a.next ++ slashed a.rest)) = ap length e' ∙ length-append (written (c ∷ cs)) (47 ∷ (a.next ++ slashed a.rest)) in
         ancestor_from s n (omega arith) (omega arith)
         (inr (ap (λ z. get_or z n 0) e' ∙ get_or_at (written (c ∷ cs)) 47 (a.next ++ slashed a.rest) 0 n (sym l)))
@@ -97,7 +97,7 @@ front_is s n a = go a.front a.whole a.long
   where
     go : (f : List (List ℕ)) → s ≡ written (f ++ a.next ∷ a.rest) → n ≡ length (written f) → take n s ≡ written f
     go [] e l = ap (take n) e ∙ take_at (47 ∷ []) (a.next ++ slashed a.rest) n (sym l)
-    go (c ∷ cs) e l = ap (take n) (e ∙ slashed-front c cs a.next a.rest) ∙ take_at (written (c ∷ cs)) _ n (sym l)
+    go (c ∷ cs) e l = ap (take n) (e ∙ slashed_front c cs a.next a.rest) ∙ take_at (written (c ∷ cs)) _ n (sym l)
 
 pub ancestors : Ancestors
 ancestors =

@@ -84,14 +84,14 @@ components_back s n f m = go m.first m.others m.components (ap tail m.whole)
 pub components_at_end : (s : List ℕ) (n : ℕ) → n ≡ length s → Component (take (n - 0) s) → IsRest s
 components_at_end s n e a = components_one s (subst Component (take_all (n - 0) s (omega arith)) a)
 
-pub components-step : (s : List ℕ) (n : ℕ) → First s n → (n ≡ length s → ⊥) → Component (take (n - 0) s) → IsRest (take (length s - (n + 1)) (drop (n + 1) s)) → IsRest s
-components-step s n f l a m =
+pub components_step : (s : List ℕ) (n : ℕ) → First s n → (n ≡ length s → ⊥) → Component (take (n - 0) s) → IsRest (take (length s - (n + 1)) (drop (n + 1) s)) → IsRest s
+components_step s n f l a m =
     let lt : n < length s = omega (arith, f.within, l) in
     let z : n - 0 ≡ n = omega arith in
     components_more s n lt (f.found lt) (subst (λ k. Component (take k s)) z a) (subst IsRest (take_rest s (n + 1)) m)
 
-pub components-first : (s : List ℕ) (n : ℕ) → First s n → IsRest s → Component (take (n - 0) s)
-components-first s n f m = let z : n ≡ n - 0 = omega arith in subst (λ k. Component (take k s)) z (components_back s n f m).0
+pub components_first : (s : List ℕ) (n : ℕ) → First s n → IsRest s → Component (take (n - 0) s)
+components_first s n f m = let z : n ≡ n - 0 = omega arith in subst (λ k. Component (take k s)) z (components_back s n f m).0
 
 pub components_rest : (s : List ℕ) (n : ℕ) → First s n → (n ≡ length s → ⊥) → IsRest s → IsRest (take (length s - (n + 1)) (drop (n + 1) s))
 components_rest s n f l m = subst IsRest (sym (take_rest s (n + 1))) (⊎_elim (λ e. absurd (l e)) (λ x. x) (components_back s n f m).1)

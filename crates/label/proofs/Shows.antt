@@ -45,6 +45,6 @@ module _ {W : Type 0} (took : W → List ℕ → W → Type 0) (s : Rights) wher
       has_written_to_eq took f _ g g' z
       (has_written_of_eq took f _ _ g (sym (those_more s i l ∙ ap (λ x. those s (take i order) ++ x) (cond-false _ _ _ e) ∙ append-nil (those s (take i order)))) p)
 
-  pub letters-put : (i : ℕ) (f g : Formatter W) → 6 ≤ i → (s.bits ≡ 0 → ⊥) → HasWritten took f (those s (take i order)) g → HasWritten took f (letters s) g
-  letters-put i f g l n =
+  pub letters_put : (i : ℕ) (f g : Formatter W) → 6 ≤ i → (s.bits ≡ 0 → ⊥) → HasWritten took f (those s (take i order)) g → HasWritten took f (letters s) g
+  letters_put i f g l n =
       has_written_of_eq took f _ _ g (ap (those s) (take_all i order l) ∙ sym (cond-false _ _ _ (ne_eqb s.bits 0 n)))

@@ -5,4 +5,4 @@ use Rattle.label.specs.declared.rights.Rights.{Rights}
 
 pub record Sets : Type 0 where
   pub none_has : (l : ℕ) → has none l ≡ false
-  pub union-has : (s t : Rights) (l : ℕ) → has (union s t) l ≡ (has s l || has t l)
+  pub union_has : (s t : Rights) (l : ℕ) → has (union s t) l ≡ (has s l || has t l)

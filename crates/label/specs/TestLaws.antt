@@ -131,14 +131,14 @@ components_byte part b bs h =
     ap (λ t. cond t (whole part) (path_byte b) && components (cond t nothing (grown part b)) bs) n
     ∙ ap (λ t. t && components (grown part b) bs) ((path_byte_test b).1 h)
 
-components-run : (part : Part) (c t : List ℕ) → AllByRecursion PathByte c → components part (c ++ t) ≡ components (come part c) t
-components-run part [] t a = refl
-components-run part (b ∷ bs) t a = components_byte part b (bs ++ t) a.0 ∙ components-run (grown part b) bs t a.1
+components_run : (part : Part) (c t : List ℕ) → AllByRecursion PathByte c → components part (c ++ t) ≡ components (come part c) t
+components_run part [] t a = refl
+components_run part (b ∷ bs) t a = components_byte part b (bs ++ t) a.0 ∙ components_run (grown part b) bs t a.1
 
 components_to : (c : List ℕ) (cs : List (List ℕ)) → AllByRecursion Component (c ∷ cs) → components nothing (c ++ slashed cs) ≡ true
-components_to c [] a = components-run nothing c [] a.0.bytes ∙ come-whole c a.0
+components_to c [] a = components_run nothing c [] a.0.bytes ∙ come-whole c a.0
 components_to c (d ∷ ds) a =
-    components-run nothing c (slashed (d ∷ ds)) a.0.bytes
+    components_run nothing c (slashed (d ∷ ds)) a.0.bytes
     ∙ ap (λ t. t && components nothing (d ++ slashed ds)) (come-whole c a.0)
     ∙ components_to d ds a.1
 

@@ -331,7 +331,7 @@ module _ (P : Policy) where
         g = r.knows
 
         lt : o < P.objects
-        lt = P.pass-object D o E q
+        lt = P.pass_object D o E q
 
         x : Turned P s k D g.list₁ (always (run o (Some E) 64)) (run o (Some E) 64)
         x = turned P s k D g.list₁ (always (run o (Some E) 64)) (run o (Some E) 64) (seat_is c.second) g.seat₁ refl (plain_pass P D o E q) (may_pass P D o E q)

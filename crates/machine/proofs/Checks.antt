@@ -51,18 +51,18 @@ first_passed : (b : Bool) (r : Refusal) (checks : List (Option Refusal)) → fir
 first_passed true r checks e = (refl, e)
 first_passed false r checks e = absurd (some_is_none e)
 
-first-granted : (v : Result (Unit {0}) (ℕ × ℕ)) (checks : List (Option Refusal)) → first_of (denial v ∷ checks) ≡ None →
+first_granted : (v : Result (Unit {0}) (ℕ × ℕ)) (checks : List (Option Refusal)) → first_of (denial v ∷ checks) ≡ None →
     (is_ok v ≡ true) × (first_of checks ≡ None)
-first-granted (Ok x) checks e = (refl, e)
-first-granted (Err x) checks e = absurd (some_is_none e)
+first_granted (Ok x) checks e = (refl, e)
+first_granted (Err x) checks e = absurd (some_is_none e)
 
-pass-first : (b : Bool) (r : Refusal) (checks : List (Option Refusal)) → b ≡ true → first_of (unless b r ∷ checks) ≡ first_of checks
-pass-first true r checks e = refl
-pass-first false r checks e = absurd (true≢false (sym e))
+pass_first : (b : Bool) (r : Refusal) (checks : List (Option Refusal)) → b ≡ true → first_of (unless b r ∷ checks) ≡ first_of checks
+pass_first true r checks e = refl
+pass_first false r checks e = absurd (true≢false (sym e))
 
-grant-first : (v : Result (Unit {0}) (ℕ × ℕ)) (checks : List (Option Refusal)) → is_ok v ≡ true → first_of (denial v ∷ checks) ≡ first_of checks
-grant-first (Ok x) checks e = refl
-grant-first (Err x) checks e = absurd (true≢false (sym e))
+grant_first : (v : Result (Unit {0}) (ℕ × ℕ)) (checks : List (Option Refusal)) → is_ok v ≡ true → first_of (denial v ∷ checks) ≡ first_of checks
+grant_first (Ok x) checks e = refl
+grant_first (Err x) checks e = absurd (true≢false (sym e))
 
 -- what a call that is admitted has passed
 pub record Admitted (P : Policy) (d : ℕ) (c : Call) : Type 0 where
@@ -78,7 +78,7 @@ admitted P d c e =
     let b = first_passed (leb (length (handed c)) 64) _ _ a.1 in
     let w = first_passed (wish_is_domain P (wish c)) _ _ b.1 in
     let f = first_passed (leb 64 (room c)) _ _ w.1 in
-    let g = first-granted (P.verdict (act c) d (object c)) _ f.1 in
+    let g = first_granted (P.verdict (act c) d (object c)) _ f.1 in
     let h = first_passed (wish_may_pass P d (object c) (wish c)) _ _ g.1 in
     record { below = ltb-true (object c) P.objects a.0; short = b.0; grant = g.0; passage = h.0 }
 
@@ -86,12 +86,12 @@ pub admit : (P : Policy) (d : ℕ) (c : Call) → object c < P.objects → lengt
     64 ≤ room c → granted P (act c) d (object c) ≡ true → wish_may_pass P d (object c) (wish c) ≡ true → refusal P d c ≡ None
 unfolding refusal
 admit P d c a b w f g h =
-    pass-first (ltb (object c) P.objects) _ _ (lt-ltb _ _ a) ∙
-    pass-first (leb (length (handed c)) 64) _ _ (le-leb _ _ b) ∙
-    pass-first (wish_is_domain P (wish c)) _ _ w ∙
-    pass-first (leb 64 (room c)) _ _ (le-leb _ _ f) ∙
-    grant-first (P.verdict (act c) d (object c)) _ g ∙
-    pass-first (wish_may_pass P d (object c) (wish c)) _ _ h
+    pass_first (ltb (object c) P.objects) _ _ (lt-ltb _ _ a) ∙
+    pass_first (leb (length (handed c)) 64) _ _ (le-leb _ _ b) ∙
+    pass_first (wish_is_domain P (wish c)) _ _ w ∙
+    pass_first (leb 64 (room c)) _ _ (le-leb _ _ f) ∙
+    grant_first (P.verdict (act c) d (object c)) _ g ∙
+    pass_first (wish_may_pass P d (object c) (wish c)) _ _ h
 
 -- ── The first check that fails, for whoever makes them one by one ──
 
@@ -112,24 +112,24 @@ module _ (P : Policy) (d : ℕ) (c : Call) where
     pub refused_for_length : 64 < length (handed c) → refusal P d c ≡ Some too_long
     unfolding refusal
     refused_for_length a =
-        pass-first (ltb (object c) P.objects) _ _ (lt-ltb _ _ below) ∙
+        pass_first (ltb (object c) P.objects) _ _ (lt-ltb _ _ below) ∙
         fail_first (leb (length (handed c)) 64) _ _ (lt-leb _ _ a)
 
     module _ (short : length (handed c) ≤ 64) where
       pub refused_for_wish : wish_is_domain P (wish c) ≡ false → refusal P d c ≡ Some no_domain
       unfolding refusal
       refused_for_wish a =
-          pass-first (ltb (object c) P.objects) _ _ (lt-ltb _ _ below) ∙
-          pass-first (leb (length (handed c)) 64) _ _ (le-leb _ _ short) ∙
+          pass_first (ltb (object c) P.objects) _ _ (lt-ltb _ _ below) ∙
+          pass_first (leb (length (handed c)) 64) _ _ (le-leb _ _ short) ∙
           fail_first (wish_is_domain P (wish c)) _ _ a
 
       module _ (known : wish_is_domain P (wish c) ≡ true) where
         pub refused_for_buffer : room c < 64 → refusal P d c ≡ Some short_buffer
         unfolding refusal
         refused_for_buffer a =
-            pass-first (ltb (object c) P.objects) _ _ (lt-ltb _ _ below) ∙
-            pass-first (leb (length (handed c)) 64) _ _ (le-leb _ _ short) ∙
-            pass-first (wish_is_domain P (wish c)) _ _ known ∙
+            pass_first (ltb (object c) P.objects) _ _ (lt-ltb _ _ below) ∙
+            pass_first (leb (length (handed c)) 64) _ _ (le-leb _ _ short) ∙
+            pass_first (wish_is_domain P (wish c)) _ _ known ∙
             fail_first (leb 64 (room c)) _ _ (lt-leb _ _ a)
 
         module _ (roomy : 64 ≤ room c) where
@@ -137,19 +137,19 @@ module _ (P : Policy) (d : ℕ) (c : Call) where
               refusal P d c ≡ Some (denied pair.0 pair.1)
           unfolding refusal
           refused_for_denial pair a =
-              pass-first (ltb (object c) P.objects) _ _ (lt-ltb _ _ below) ∙
-              pass-first (leb (length (handed c)) 64) _ _ (le-leb _ _ short) ∙
-              pass-first (wish_is_domain P (wish c)) _ _ known ∙
-              pass-first (leb 64 (room c)) _ _ (le-leb _ _ roomy) ∙
+              pass_first (ltb (object c) P.objects) _ _ (lt-ltb _ _ below) ∙
+              pass_first (leb (length (handed c)) 64) _ _ (le-leb _ _ short) ∙
+              pass_first (wish_is_domain P (wish c)) _ _ known ∙
+              pass_first (leb 64 (room c)) _ _ (le-leb _ _ roomy) ∙
               deny_first (P.verdict (act c) d (object c)) pair _ a
 
           pub refused_for_passage : granted P (act c) d (object c) ≡ true → wish_may_pass P d (object c) (wish c) ≡ false →
               refusal P d c ≡ Some no_passage
           unfolding refusal
           refused_for_passage g a =
-              pass-first (ltb (object c) P.objects) _ _ (lt-ltb _ _ below) ∙
-              pass-first (leb (length (handed c)) 64) _ _ (le-leb _ _ short) ∙
-              pass-first (wish_is_domain P (wish c)) _ _ known ∙
-              pass-first (leb 64 (room c)) _ _ (le-leb _ _ roomy) ∙
-              grant-first (P.verdict (act c) d (object c)) _ g ∙
+              pass_first (ltb (object c) P.objects) _ _ (lt-ltb _ _ below) ∙
+              pass_first (leb (length (handed c)) 64) _ _ (le-leb _ _ short) ∙
+              pass_first (wish_is_domain P (wish c)) _ _ known ∙
+              pass_first (leb 64 (room c)) _ _ (le-leb _ _ roomy) ∙
+              grant_first (P.verdict (act c) d (object c)) _ g ∙
               fail_first (wish_may_pass P d (object c) (wish c)) _ _ a

@@ -19,26 +19,26 @@ abbrev by_domain : Policy → Option ℕ → Option Bytes → Call → Answer
 by_domain P None v c = refused seat_idle
 by_domain P (Some d) v c = by_refusal P d v c (refusal P d c)
 
-outcome-answers : (P : Policy) (st : State) (s d : ℕ) (l : List Answer) (c : Call) (a : Option Refusal) → (outcome P st s d l c a).0 ≡ by_refusal P d (st.contents (object c)) c a
-outcome-answers P st s d l c (Some r) = refl
-outcome-answers P st s d l c None = refl
+outcome_answers : (P : Policy) (st : State) (s d : ℕ) (l : List Answer) (c : Call) (a : Option Refusal) → (outcome P st s d l c a).0 ≡ by_refusal P d (st.contents (object c)) c a
+outcome_answers P st s d l c (Some r) = refl
+outcome_answers P st s d l c None = refl
 
-call_at-answers : (P : Policy) (st : State) (s : ℕ) (c : Call) (x : Seat) → (call_at P st s c x).0 ≡ by_domain P (domain x) (st.contents (object c)) c
+call_at_answers : (P : Policy) (st : State) (s : ℕ) (c : Call) (x : Seat) → (call_at P st s c x).0 ≡ by_domain P (domain x) (st.contents (object c)) c
 unfolding call_at
-call_at-answers P st s c idle = refl
-call_at-answers P st s c (seated d l) = outcome-answers P st s d l c (refusal P d c)
+call_at_answers P st s c idle = refl
+call_at_answers P st s c (seated d l) = outcome_answers P st s d l c (refusal P d c)
 
-pub call-answers : (P : Policy) (st : State) (s : ℕ) (c : Call) →
+pub call_answers : (P : Policy) (st : State) (s : ℕ) (c : Call) →
     (call P st s c).0 ≡ cond (ltb s 16) (by_domain P (domain (st.seats s)) (st.contents (object c)) c) (refused no_seat)
 unfolding call
-call-answers P st s c =
+call_answers P st s c =
     elim (ltb s 16) as (λ b. (cond b (call_at P st s c (st.seats s)) (refused no_seat, st)).0 ≡ cond b (by_domain P (domain (st.seats s)) (st.contents (object c)) c) (refused no_seat))
-    [ true ↦ call_at-answers P st s c (st.seats s) | false ↦ refl ]
+    [ true ↦ call_at_answers P st s c (st.seats s) | false ↦ refl ]
 
 pub answer_depends : (P : Policy) (st st' : State) (s : ℕ) (c : Call) → domain (st.seats s) ≡ domain (st'.seats s) →
     st.contents (object c) ≡ st'.contents (object c) → (call P st s c).0 ≡ (call P st' s c).0
 answer_depends P st st' s c p q =
-    call-answers P st s c ∙ (λ i. cond (ltb s 16) (by_domain P (p i) (q i) c) (refused no_seat)) ∙ sym (call-answers P st' s c)
+    call_answers P st s c ∙ (λ i. cond (ltb s 16) (by_domain P (p i) (q i) c) (refused no_seat)) ∙ sym (call_answers P st' s c)
 
 -- ── Calls that tell nothing ──
 
@@ -61,9 +61,9 @@ domain_tells_nothing P (Some d) v w c e = refusal_tells_nothing P d v w c (refus
 pub changing_tells_nothing : (P : Policy) (st : State) (m : Contents) (s : ℕ) (c : Call) → changing c ≡ true →
     (call P (with_contents st m) s c).0 ≡ (call P st s c).0
 changing_tells_nothing P st m s c e =
-    call-answers P (with_contents st m) s c ∙
+    call_answers P (with_contents st m) s c ∙
     ap (λ (a : Answer). cond (ltb s 16) a (refused no_seat)) (domain_tells_nothing P (domain (st.seats s)) (m (object c)) (st.contents (object c)) c e) ∙
-    sym (call-answers P st s c)
+    sym (call_answers P st s c)
 
 -- ── Refusals that do not look ──
 
@@ -99,8 +99,8 @@ seat_unlooked P false d v w c r h e = e
 pub only_absence_looks : (P : Policy) (st : State) (m : Contents) (s : ℕ) (c : Call) (r : Refusal) → r ≢ absent → (call P st s c).0 ≡ refused r →
     (call P (with_contents st m) s c).0 ≡ refused r
 only_absence_looks P st m s c r h e =
-    call-answers P (with_contents st m) s c ∙
-    seat_unlooked P (ltb s 16) (domain (st.seats s)) (st.contents (object c)) (m (object c)) c r h (sym (call-answers P st s c) ∙ e)
+    call_answers P (with_contents st m) s c ∙
+    seat_unlooked P (ltb s 16) (domain (st.seats s)) (st.contents (object c)) (m (object c)) c r h (sym (call_answers P st s c) ∙ e)
 
 -- ── Lists ──
 

@@ -25,7 +25,7 @@ module _ (P : Policy) where
 
   auto_moves : (d o : ℕ) (a : Option ℕ) → P.auto d o ≡ a → Moves d (or_stay d a)
   auto_moves d o None q = inl refl
-  auto_moves d o (Some e) q = inr (o, P.auto-pass d o e q)
+  auto_moves d o (Some e) q = inr (o, P.auto_pass d o e q)
 
   present_moves : (d e : ℕ) (v : Option Bytes) → Moves d e → Moves d (if_present d e v)
   present_moves d e None h = inl refl

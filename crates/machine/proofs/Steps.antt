@@ -141,15 +141,15 @@ module _ (P : Policy) where
 
   pub may_pass : (d o e : ℕ) → P.pass d o e ≡ true → refusal P d (run o (Some e) 64) ≡ None
   may_pass d o e q =
-      admit P d (run o (Some e) 64) (P.pass-object d o e q) (omega arith) (lt-ltb e P.domains (P.pass-domain d o e q)) (omega arith)
-      (P.pass-runs d o e q) q
+      admit P d (run o (Some e) 64) (P.pass_object d o e q) (omega arith) (lt-ltb e P.domains (P.pass_domain d o e q)) (omega arith)
+      (P.pass_runs d o e q) q
 
   pub plain_pass : (d o e : ℕ) → P.pass d o e ≡ true → PlainCall P (run o (Some e) 64)
   plain_pass d o e q =
       record {
         hands_bytes = tt;
-        names_object = P.pass-object d o e q;
-        wishes_domain = lt-ltb e P.domains (P.pass-domain d o e q);
+        names_object = P.pass_object d o e q;
+        wishes_domain = lt-ltb e P.domains (P.pass_domain d o e q);
         has_room = refl;
       }
 
@@ -205,7 +205,7 @@ module _ (P : Policy) where
             seat =
                 t.acted.seat ∙
                 ap (λ (x : ℕ). seated x (note r.list (reply_run e (r.end.contents o))))
-                (present_moves d e (r.end.contents o) (subst Present (sym (r.same o)) (p o (P.pass-object d o e q))));
+                (present_moves d e (r.end.contents o) (subst Present (sym (r.same o)) (p o (P.pass_object d o e q))));
             news = other_answer_changes_nothing r.list (reply_run e (r.end.contents o)) (run_is_not_empty e (r.end.contents o)) ∙ r.news;
             rest = λ j h. t.acted.rest j h ∙ r.rest j h;
             same = λ x. looked r.end t.end k d r.list (run o (Some e) 64) (λ v. refl) t.acted x ∙ r.same x;

@@ -23,10 +23,10 @@ pub record Policy : Type 0 where
   -- who may run an object may read it
   pub run_reads : (d o : ℕ) → is_ok (verdict running d o) ≡ true → is_ok (verdict reading d o) ≡ true
   -- a passage is by an object that may be run, and to a domain
-  pub pass-runs : (d o e : ℕ) → pass d o e ≡ true → is_ok (verdict running d o) ≡ true
-  pub pass-object : (d o e : ℕ) → pass d o e ≡ true → o < objects
-  pub pass-domain : (d o e : ℕ) → pass d o e ≡ true → e < domains
-  pub auto-pass : (d o e : ℕ) → auto d o ≡ Some e → pass d o e ≡ true
+  pub pass_runs : (d o e : ℕ) → pass d o e ≡ true → is_ok (verdict running d o) ≡ true
+  pub pass_object : (d o e : ℕ) → pass d o e ≡ true → o < objects
+  pub pass_domain : (d o e : ℕ) → pass d o e ≡ true → e < domains
+  pub auto_pass : (d o e : ℕ) → auto d o ≡ Some e → pass d o e ≡ true
 
 abbrev pub granted : Policy → Act → ℕ → ℕ → Bool
 granted P act d o = is_ok (P.verdict act d o)

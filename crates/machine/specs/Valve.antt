@@ -37,10 +37,10 @@ valve =
       pass = λ d o e. false;
       auto = λ d o. None;
       run_reads = λ d o q. absurd (true≢false (sym q));
-      pass-runs = λ d o e q. q;
-      pass-object = λ d o e q. absurd (true≢false (sym q));
-      pass-domain = λ d o e q. absurd (true≢false (sym q));
-      auto-pass = λ d o e q. absurd (nothing_is_something q);
+      pass_runs = λ d o e q. q;
+      pass_object = λ d o e q. absurd (true≢false (sym q));
+      pass_domain = λ d o e q. absurd (true≢false (sym q));
+      auto_pass = λ d o e q. absurd (nothing_is_something q);
     }
 
 -- the chain from object 0 by the only domain to object 1

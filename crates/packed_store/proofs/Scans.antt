@@ -10,7 +10,7 @@ use Rattle.packed_store.specs.Layout.{packed_places, Table, AllShort, coded, enc
 use Rattle.packed_store.specs.Reading.{record_at, decode, table, intact, packed_contents}
 use Rattle.packed_store.specs.ReadingLaws.{length-table}
 use Rattle.packed_store.specs.Scan.{Found, Stands, Opened}
-use Rattle.packed_store.proofs.Tables.{record_in_front, record_within, encode-append, encode-length, table_short, set_short, marked_is_ended}
+use Rattle.packed_store.proofs.Tables.{record_in_front, record_within, encode-append, length-encode, table_short, set_short, marked_is_ended}
 
 few_bytes : (p : ℕ) (ys : List ℕ) → length ys < 2 → record_at p ys ≡ None
 few_bytes p [] h = refl
@@ -154,7 +154,7 @@ module _ (xs : List ℕ) (at i j e : ℕ) (lt : at < packed_places xs) (a : Stan
 
     entry_fits : i + (length (coded at o) + (e - j)) ≤ length xs
     entry_fits =
-        let n = encode-length (set (table xs) at o) 0 entry_keeps_short in
+        let n = length-encode (set (table xs) at o) 0 entry_keeps_short in
         let k = simp (length-append, length-take, length-drop) at (ap length records_with_entry) in
         omega (arith, entry_keeps_places, tail_before_end, a.within, b.within, z.within)
 
@@ -184,7 +184,7 @@ module _ (xs : List ℕ) (at size i j e : ℕ) (lt : at < packed_places xs) (le 
       let ze = z.within in
       let l : length (take (i + size) xs) ≡ i + size = length-take-le _ _ (omega arith) in
       let m : length (take (e - j) (drop j xs)) ≡ e - j = length-take-le _ _ (simp length-drop (omega arith)) in
-      let long-y : length ys ≡ length xs = ap length y ∙ length-paste xs (i + size) (drop j xs) (e - j) r (simp length-drop (omega arith)) in
+      let long_y : length ys ≡ length xs = ap length y ∙ length-paste xs (i + size) (drop j xs) (e - j) r (simp length-drop (omega arith)) in
       let parts : ys ≡ take (i + size) xs ++ (take (e - j) (drop j xs) ++ drop (i + size + (e - j)) xs) = y ∙ append_assoc (take (i + size) xs) _ _ in
       let back : drop (i + size) zs ≡ take (e - j) (drop j xs) ++ set (drop (i + size + (e - j)) xs) 0 255 =
       ap (drop (i + size)) n ∙ drop-set-add (i + size) ys (e - j) 255
@@ -193,9 +193,9 @@ module _ (xs : List ℕ) (at size i j e : ℕ) (lt : at < packed_places xs) (le 
       ∙ ap (λ u. take (e - j) (drop j xs) ++ set (drop (i + size + (e - j)) xs) u 255) (omega arith) in
       let front : take i zs ≡ take i xs =
       ap (take i) n ∙ take-set-le i ys _ 255 (omega arith) ∙ ap (take i) parts ∙ take-append-le i _ _ (omega arith) ∙ take-take i (i + size) xs (omega arith) in
-      let long-z : length zs ≡ length xs = ap length n ∙ length-set ys _ _ ∙ long-y in
+      let long_z : length zs ≡ length xs = ap length n ∙ length-set ys _ _ ∙ long_y in
       record {
-        long = long-z;
+        long = long_z;
         room = omega arith;
         fills = λ o s k. holds_entry xs at i j e lt a b z o s _ (set (drop (i + size + (e - j)) xs) 0 255) (simp (length-append, length-take, length-drop) (omega arith)) (marked_is_ended _) (rw (front, back) refl);
       }

@@ -69,13 +69,13 @@ pub encode-append : (s t : Table) (p : ℕ) → encode p (s ++ t) ≡ encode p s
 encode-append [] t p = rw add-zero refl
 encode-append (o ∷ s) t p = rw (encode-append s t (suc p)) (rw (add-suc, suc-add) (sym (append_assoc (coded p o) _ _)))
 
-coded-length : (p : ℕ) (o : Option (List ℕ)) → Short o → length (coded p o) ≤ 66
-coded-length p None s = omega arith
-coded-length p (Some b) s = omega arith
+length-coded : (p : ℕ) (o : Option (List ℕ)) → Short o → length (coded p o) ≤ 66
+length-coded p None s = omega arith
+length-coded p (Some b) s = omega arith
 
-pub encode-length : (t : Table) (p : ℕ) → AllShort t → length (encode p t) ≤ 66 * length t
-encode-length [] p s = omega arith
-encode-length (o ∷ t) p s = rw length-append (omega (arith, coded-length p o s.0, encode-length t (suc p) s.1))
+pub length-encode : (t : Table) (p : ℕ) → AllShort t → length (encode p t) ≤ 66 * length t
+length-encode [] p s = omega arith
+length-encode (o ∷ t) p s = rw length-append (omega (arith, length-coded p o s.0, length-encode t (suc p) s.1))
 
 decode_all_short : (m p : ℕ) (ys : List ℕ) → AllShort (decode m p ys)
 decode_all_short zero p ys = tt
@@ -104,9 +104,9 @@ unfolding table
 table_in_front xs = decoded_in_front (packed_places xs) 0 xs
 
 -- A memory holds a table exactly if it is intact, and then the one that is read.
-pub intact-holds : (xs : List ℕ) → intact xs ≡ true → Holds xs (table xs)
+pub intact_holds : (xs : List ℕ) → intact xs ≡ true → Holds xs (table xs)
 unfolding intact
-intact-holds xs ok =
+intact_holds xs ok =
     let n = length (encode 0 (table xs)) in
     record {
       places = length-table xs;
@@ -137,16 +137,16 @@ held_at_place xs t h k = ap (λ u. get_or u k None) (held_is_read xs t h)
 
 -- What a memory holds after a write of one entry. zs is the list that the store then has.
 module _ (xs r ys zs : List ℕ) (at : ℕ) (o : Option (List ℕ)) (p : r ≡ xs) (q : zs ≡ ys) (h : Holds ys (set (table r) at o)) (lt : at < packed_places xs) where
-  holds-set : Holds zs (set (table xs) at o)
-  holds-set = rw (← p, q) h
+  Holds-set : Holds zs (set (table xs) at o)
+  Holds-set = rw (← p, q) h
 
   pub set_is_intact : intact zs ≡ true
-  set_is_intact = held_is_intact zs _ holds-set
+  set_is_intact = held_is_intact zs _ Holds-set
 
   pub set_is_held : packed_contents zs ≡ update eqb (packed_contents xs) at o
   unfolding packed_contents
   set_is_held =
-      let e = held_is_read zs _ holds-set in
+      let e = held_is_read zs _ Holds-set in
       let here : at < length (table xs) = rw length-table lt in
       fun_ext (λ k. ap (λ t. get_or t k None) e ∙ ⊎_elim
       (λ same. rw same (get_or-set_same (table xs) at o None here ∙ sym (update_here (packed_contents xs) at o)))
@@ -219,8 +219,8 @@ take_octets xs n all j =
     λ ge. let none : get_or (take n xs) j 0 ≡ 0 = get_or_past (take n xs) j 0 (simp length-take (omega arith)) in omega arith in
     ⊎_elim within past (cases_lt j n)
 
-drop-octets : (xs : List ℕ) (n : ℕ) → Octets xs → Octets (drop n xs)
-drop-octets xs n all j = rw get_or-drop (all (n + j))
+Octets-drop : (xs : List ℕ) (n : ℕ) → Octets xs → Octets (drop n xs)
+Octets-drop xs n all j = rw get_or-drop (all (n + j))
 
 record_octets : (p : ℕ) (ys : List ℕ) → Octets ys → (j : ℕ) → byte_at (record_at p ys) j < 256
 record_octets p [] all j = omega arith
@@ -234,7 +234,7 @@ record_octets p (q ∷ len ∷ ys) all j =
 decode_octets : (m p : ℕ) (ys : List ℕ) → Octets ys → (k j : ℕ) → byte_at (get_or (decode m p ys) k None) j < 256
 decode_octets zero p ys all k j = omega arith
 decode_octets (suc m) p ys all zero j = record_octets p ys all j
-decode_octets (suc m) p ys all (suc k) j = decode_octets m (suc p) _ (drop-octets ys _ all) k j
+decode_octets (suc m) p ys all (suc k) j = decode_octets m (suc p) _ (Octets-drop ys _ all) k j
 
 pub opened_is_octets : (r xs : List ℕ) → r ≡ xs → Octets r → AllOctets (packed_contents xs)
 unfolding packed_contents table

@@ -40,5 +40,5 @@ both_known m d o = by (no_object m o) (no_domain m d)
     by false true h = absurd (let z : ◌≡◌ {A = ℕ} 0 1 = cc in omega arith)
     by false false h = (refl, refl)
 
-pub known-answer : (m : Model) (d o : ℕ) (g : Result (Unit {0}) (ℕ × ℕ)) → None ≡ unknown m d o → answer m d o g ≡ refusal g
-known-answer m d o g h = let k = both_known m d o h in cond-false _ _ _ k.0 ∙ cond-false _ _ _ k.1
+pub known_answer : (m : Model) (d o : ℕ) (g : Result (Unit {0}) (ℕ × ℕ)) → None ≡ unknown m d o → answer m d o g ≡ refusal g
+known_answer m d o g h = let k = both_known m d o h in cond-false _ _ _ k.0 ∙ cond-false _ _ _ k.1

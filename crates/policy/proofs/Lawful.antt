@@ -16,7 +16,7 @@ use Rattle.policy.specs.Holds.{model_of}
 use Rattle.policy.specs.Laws.{Reached, Denied, Only, Laws}
 use Rattle.policy.specs.Lowest.{lowest}
 use Rattle.policy.specs.LowestLaws.{none_passes, none-lowest, is_lowest}
-use Rattle.policy.specs.PassageLaws.{verdict-ok, verdict-granted, run_reads, r_reads, pass-parts, pass-runs, pass-object, pass_from, pass_to, auto_passes}
+use Rattle.policy.specs.PassageLaws.{verdict-ok, verdict_granted, run_reads, r_reads, pass_parts, pass_runs, pass_object, pass_from, pass_to, auto_passes}
 use Rattle.policy.specs.Passages.{runs, pass, leads, target, auto}
 use Rattle.policy.specs.Sheets.{number_of, type_number}
 
@@ -58,7 +58,7 @@ denied m d p t l n k e =
 read_by : (b : Option ℕ) (r x : Bool) (n : ℕ) → is_ok (verdict b (r || x) n letter_r) ≡ true → (is_ok (verdict b r n letter_r) ≡ true) ⊎ (is_ok (verdict b x n letter_x) ≡ true)
 read_by b r x n e =
     let g = verdict-ok b (r || x) n letter_r e in
-    ⊎_elim (λ h. inl (verdict-granted b r n letter_r g.0 h)) (λ h. inr (verdict-granted b x n letter_x g.0 h)) (or_cases r x g.1)
+    ⊎_elim (λ h. inl (verdict_granted b r n letter_r g.0 h)) (λ h. inr (verdict_granted b x n letter_x g.0 h)) (or_cases r x g.1)
 
 unread_by : (b : Option ℕ) (r x : Bool) (n j k : ℕ) → verdict b (r || x) n letter_r ≡ Err (j, k) → verdict b r n letter_r ≡ Err (j, k)
 unread_by (Some i) r x n j k e = e
@@ -84,11 +84,11 @@ object_typed p o e =
     held (q ∷ os) zero l = path_typed (model_of p).rules p.rooted (text q) q.ok
     held (q ∷ os) (suc k) l = held os k (omega arith)
 
-auto-only : (m : Model) (d o e : ℕ) → Only m d (path_of m o) → pass m d o e ≡ true → leads m d (path_of m o) e ≡ true → option_map (λ x. x.0) (auto m d o) ≡ Some e
+auto_only : (m : Model) (d o e : ℕ) → Only m d (path_of m o) → pass m d o e ≡ true → leads m d (path_of m o) e ≡ true → option_map (λ x. x.0) (auto m d o) ≡ Some e
 unfolding auto
-auto-only m d o e only h t =
+auto_only m d o e only h t =
     let f : ℕ → Bool = leads m d (path_of m o) in
-    ap (option_map (λ x. x.0)) (cond-true (runs m d o) (target m d (path_of m o)) None (pass-parts m d o e h).0)
+    ap (option_map (λ x. x.0)) (cond-true (runs m d o) (target m d (path_of m o)) None (pass_parts m d o e h).0)
     ∙ found (lowest f (length m.domains)) refl
   where
     found : (x : Option ℕ) → lowest (leads m d (path_of m o)) (length m.domains) ≡ x → option_map {T = Dom} (λ y. y.0) (option_map (λ n. record { 0 = n }) x) ≡ Some e
@@ -105,7 +105,7 @@ laws =
         λ e.
             let g = verdict-ok (barrier m d p) (holds m d t l) (length p) l e in
             (reached_from m d p (length p) (none_passes (barred m d p) (length p) g.0), g.1),
-        λ h. verdict-granted (barrier m d p) (holds m d t l) (length p) l (none-lowest (barred m d p) (length p) (free_from m d p (length p) h.0)) h.1,
+        λ h. verdict_granted (barrier m d p) (holds m d t l) (length p) l (none-lowest (barred m d p) (length p) (free_from m d p (length p) h.0)) h.1,
       );
       denied = denied;
       read = λ m d o. (
@@ -113,10 +113,10 @@ laws =
         λ h. ⊎_elim (r_reads m d o) (run_reads m d o) h,
       );
       unread = λ m d o n k e. unread_by (barrier m d (path_of m o)) (holds m d (object_type m o) letter_r) (holds m d (object_type m o) letter_x) (length (path_of m o)) n k e;
-      pass-runs = pass-runs;
-      pass-object = pass-object;
+      pass_runs = pass_runs;
+      pass_object = pass_object;
       pass_from = pass_from;
       pass_to = pass_to;
       auto_passes = auto_passes;
-      auto-only = auto-only;
+      auto_only = auto_only;
     }

@@ -13,7 +13,7 @@ use Rattle.policy.specs.declared.complete.Policy.{Policy}
 use Rattle.policy.specs.Grants.{grant_on, read_on}
 use Rattle.policy.specs.Holds.{model_of}
 use Rattle.policy.specs.Passages.{pass, auto}
-use Rattle.policy.specs.PassageLaws.{run_reads, pass-runs, pass-object, pass_to, auto_passes}
+use Rattle.policy.specs.PassageLaws.{run_reads, pass_runs, pass_object, pass_to, auto_passes}
 use Rattle.policy.specs.Sheets.{type_number}
 
 -- what grants each act
@@ -29,12 +29,12 @@ abbrev pub first_number : Option Dom → ℕ
 first_number None = 0
 first_number (Some d) = d.0
 
-first-declared : (f : Option Dom) (n : ℕ) → is_some f ≡ true → declared_in f n ≡ true → first_number f < n
-first-declared None n s t = absurd (true≢false (sym s))
-first-declared (Some d) n s t = ltb-true d.0 n t
+first_declared : (f : Option Dom) (n : ℕ) → is_some f ≡ true → declared_in f n ≡ true → first_number f < n
+first_declared None n s t = absurd (true≢false (sym s))
+first_declared (Some d) n s t = ltb-true d.0 n t
 
 pub first_is : (p : Policy) → first_number (model_of p).first < length (model_of p).domains
-first_is p = subst (λ n. first_number (model_of p).first < n) p.tables.domains.list.ok.0 (first-declared (model_of p).first (vec_len p.tables.domains.list) p.begins p.tables.begins)
+first_is p = subst (λ n. first_number (model_of p).first < n) p.tables.domains.list.ok.0 (first_declared (model_of p).first (vec_len p.tables.domains.list) p.begins p.tables.begins)
 
 -- the policy that tables with a declared default domain are to the machine
 unfoldable pub asked_of : (m : Model) → first_number m.first < length m.domains → Asked
@@ -48,10 +48,10 @@ asked_of m first_is = record {
   pass = pass m;
   auto = λ d o. option_map (λ e. e.0) (auto m d o);
   run_reads = run_reads m;
-  pass-runs = pass-runs m;
-  pass-object = pass-object m;
-  pass-domain = pass_to m;
-  auto-pass = auto_passes m;
+  pass_runs = pass_runs m;
+  pass_object = pass_object m;
+  pass_domain = pass_to m;
+  auto_pass = auto_passes m;
 }
 
 unfoldable pub asked : Policy → Asked

@@ -36,10 +36,10 @@ pub record Laws : Type 0 where
   pub read : (m : Model) (d o : ℕ) → (is_ok (read_on m d o) ≡ true) ↔ ((is_ok (grant_on m d o letter_r) ≡ true) ⊎ (is_ok (grant_on m d o letter_x) ≡ true))
   -- reading that is denied is denied as r is
   pub unread : (m : Model) (d o n k : ℕ) → read_on m d o ≡ Err (n, k) → grant_on m d o letter_r ≡ Err (n, k)
-  pub pass-runs : (m : Model) (d o e : ℕ) → pass m d o e ≡ true → is_ok (grant_on m d o letter_x) ≡ true
-  pub pass-object : (m : Model) (d o e : ℕ) → pass m d o e ≡ true → o < length m.objects
+  pub pass_runs : (m : Model) (d o e : ℕ) → pass m d o e ≡ true → is_ok (grant_on m d o letter_x) ≡ true
+  pub pass_object : (m : Model) (d o e : ℕ) → pass m d o e ≡ true → o < length m.objects
   pub pass_from : (m : Model) (d o e : ℕ) → pass m d o e ≡ true → d < length m.domains
   pub pass_to : (m : Model) (d o e : ℕ) → pass m d o e ≡ true → e < length m.domains
   pub auto_passes : (m : Model) (d o e : ℕ) → option_map (λ x. x.0) (auto m d o) ≡ Some e → pass m d o e ≡ true
   -- where a domain has one auto passage by an object, a run without a wish takes that one
-  pub auto-only : (m : Model) (d o e : ℕ) → Only m d (path_of m o) → pass m d o e ≡ true → leads m d (path_of m o) e ≡ true → option_map (λ x. x.0) (auto m d o) ≡ Some e
+  pub auto_only : (m : Model) (d o e : ℕ) → Only m d (path_of m o) → pass m d o e ≡ true → leads m d (path_of m o) e ≡ true → option_map (λ x. x.0) (auto m d o) ≡ Some e

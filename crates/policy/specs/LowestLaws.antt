@@ -17,9 +17,9 @@ or_some : {X : Type 0} (a b : Option X) (x : X) → option_or a b ≡ Some x →
 or_some None b x e = inr (refl, e)
 or_some (Some y) b x e = inl e
 
-or-none : {X : Type 0} (a b : Option X) → option_or a b ≡ None → (a ≡ None) × (b ≡ None)
-or-none None b e = (refl, e)
-or-none (Some x) b e = absurd (let z : ◌≡◌ {A = ℕ} 0 1 = cc in omega arith)
+or_none : {X : Type 0} (a b : Option X) → option_or a b ≡ None → (a ≡ None) × (b ≡ None)
+or_none None b e = (refl, e)
+or_none (Some x) b e = absurd (let z : ◌≡◌ {A = ℕ} 0 1 = cc in omega arith)
 
 cond-some : (b : Bool) (n k : ℕ) → cond b (Some n) None ≡ Some k → (b ≡ true) × (n ≡ k)
 cond-some true n k e = (refl, cc)
@@ -34,7 +34,7 @@ module _ (f : ℕ → Bool) where
   unfolding lowest
   none_passes zero e k l = absurd (omega arith)
   none_passes (suc n) e k l =
-      let h = or-none (lowest f n) _ e in
+      let h = or_none (lowest f n) _ e in
       ⊎_elim (λ s. ap f s ∙ cond-none _ n h.1) (λ s. none_passes n h.0 k (omega (arith, s))) (cases_eq k n)
 
   pub none-lowest : (n : ℕ) → ((k : ℕ) → k < n → f k ≡ false) → lowest f n ≡ None

@@ -6,9 +6,9 @@ use Rattle.std.proofs.lemmas.Bool.{eq-eqb, ne_eqb}
 use Rattle.reach.specs.declared.search.Search.{Search}
 use Rattle.reach.specs.Queue.{missing, finding, Room, far_of}
 
-pub missing-all : missing (replicate 160 255) ≡ 160
+pub missing_all : missing (replicate 160 255) ≡ 160
 unfolding missing
-missing-all = refl
+missing_all = refl
 
 -- a node that is found is missing no more
 pub missing-set : (d : List ℕ) (v k : ℕ) → v < length d → get_or d v 0 ≡ 255 → k ≢ 255 → missing (set d v k) + 1 ≡ missing d

@@ -4,7 +4,7 @@ use Rattle.std.proofs.lemmas.List.{length-replicate, get_or-set_same, get_or-set
 use Rattle.std.proofs.lemmas.Bool.{cases_lt, cases_eq, both_ways}
 use Rattle.reach.specs.declared.search.Search.{Search}
 use Rattle.reach.specs.Queue.{far_of, node_at, finding, Started, Queue}
-use Rattle.reach.proofs.Missing.{missing-all, queue_has_room, room_stays}
+use Rattle.reach.proofs.Missing.{missing_all, queue_has_room, room_stays}
 
 pub started_none : (S : ℕ → Bool) → Started S 0 (record { dist = replicate 160 255; parent = replicate 160 0; queue = replicate 160 0; count = 0 })
 started_none S =
@@ -13,7 +13,7 @@ started_none S =
         dist = length-replicate {A = ℕ} 160 255;
         parent = length-replicate {A = ℕ} 160 0;
         queue = length-replicate {A = ℕ} 160 0;
-        count = omega (arith, missing-all);
+        count = omega (arith, missing_all);
       };
       below = λ v h. absurd (omega arith);
       above = λ v h l. get_or-replicate 160 v 255 0 l;

@@ -41,14 +41,14 @@ traced-none reach to room h e = told (nat_le 160 room) (le-leb 160 room h) e
     told true w q = q
     told false w q = absurd (let z : ◌≡◌ {A = ℕ} 0 1 = cc in omega arith)
 
-pub trail-length : (parent : ℕ → ℕ) (n v : ℕ) → length (trail parent n v) ≡ suc n
+pub length-trail : (parent : ℕ → ℕ) (n v : ℕ) → length (trail parent n v) ≡ suc n
 unfolding trail
-trail-length parent zero v = refl
-trail-length parent (suc n) v = length-append (trail parent n (parent v)) (v ∷ []) ∙ (omega (arith, trail-length parent n (parent v)))
+length-trail parent zero v = refl
+length-trail parent (suc n) v = length-append (trail parent n (parent v)) (v ∷ []) ∙ (omega (arith, length-trail parent n (parent v)))
 
 -- what stands behind the walk stays
 pub written_keeps_rest : (reach : Reach) (to n : ℕ) (nodes : List ℕ) → drop (suc n) (written reach to nodes (Some n)) ≡ drop (suc n) nodes
-written_keeps_rest reach to n nodes = drop_at (trail (parent_of reach) n to) (drop (suc n) nodes) (suc n) (trail-length (parent_of reach) n to)
+written_keeps_rest reach to n nodes = drop_at (trail (parent_of reach) n to) (drop (suc n) nodes) (suc n) (length-trail (parent_of reach) n to)
 
 pub written_keeps : (reach : Reach) (to n : ℕ) (nodes : List ℕ) (k : ℕ) → n < k → slice_index (written reach to nodes (Some n)) k ≡ slice_index nodes k
 written_keeps reach to n nodes k h =
@@ -97,7 +97,7 @@ module _ (S : ℕ → Bool) (E : ℕ → ℕ → Bool) (distance : ℕ → Optio
       subst (λ (l : List ℕ). ShortestWalk S E distance to (suc n) l) (sym (append_assoc (trail parent n (parent to)) (to ∷ []) rest))
       (walk_goes_on to n e (trail parent n (parent to) ++ to ∷ rest)
       (trail_is_shortest_walk (parent to) n (f.near to n e) (to ∷ rest))
-      (get_or_at (trail parent n (parent to)) to rest 0 (suc n) (trail-length parent n (parent to))))
+      (get_or_at (trail parent n (parent to)) to rest 0 (suc n) (length-trail parent n (parent to))))
 
 pub written_is_shortest_walk : ShortestWalks
 written_is_shortest_walk S E reach f to n nodes e =

@@ -47,9 +47,9 @@ does_steps None c added after next (Ok u) t = ap (λ m. Ok (tabled c m, next)) (
 does_steps None c added after next (Err e) t = absurd (ok_no_err (sym t.0))
 
 -- what comes first gave a value
-pub then-goes : {A : Type 0} (x : Result A Reason) (a : A) (k : A → Next) (r : Result Position Stop) (c : Composed) → Ok a ≡ x → Steps (k a) r c → Steps (then x k) r c
-then-goes x a k r c e s = subst (λ y. Steps (then y k) r c) e s
+pub then_goes : {A : Type 0} (x : Result A Reason) (a : A) (k : A → Next) (r : Result Position Stop) (c : Composed) → Ok a ≡ x → Steps (k a) r c → Steps (then x k) r c
+then_goes x a k r c e s = subst (λ y. Steps (then y k) r c) e s
 
 -- what comes first was refused
-pub then-stops : {A B : Type 0} (x : Result A Reason) (e : Reason) (k : A → Result B Reason) → Err e ≡ x → then x k ≡ Err e
-then-stops x e k h = ap (λ y. then y k) (sym h)
+pub then_stops : {A B : Type 0} (x : Result A Reason) (e : Reason) (k : A → Result B Reason) → Err e ≡ x → then x k ≡ Err e
+then_stops x e k h = ap (λ y. then y k) (sym h)

@@ -21,20 +21,20 @@ use Rattle.reading_laws.proofs.Steps.{reading_by, reading-nil, reading-cons, lex
 abbrev pub moved : ℕ → Piece → Piece
 moved n (at p s) = at (p + n) s
 
-lex-further : (n : ℕ) (m : Mode) (p : ℕ) (bs : List ℕ) → lex m (p + n) bs ≡ map (moved n) (lex m p bs)
-lex-further n m p [] = lex-nil m (p + n) ∙ ap (map (moved n)) (sym (lex-nil m p))
-lex-further n m p (b ∷ bs) =
+lex_further : (n : ℕ) (m : Mode) (p : ℕ) (bs : List ℕ) → lex m (p + n) bs ≡ map (moved n) (lex m p bs)
+lex_further n m p [] = lex-nil m (p + n) ∙ ap (map (moved n)) (sym (lex-nil m p))
+lex_further n m p (b ∷ bs) =
     let on : p + n + 1 ≡ p + 1 + n = omega arith in
     lex-cons m (p + n) b bs
     ∙ elim (deed m (class_at b bs)) as (λ d. lex_by d (p + n) b bs ≡ map (moved n) (lex_by d p b bs)) [
-      | pass k ↦ ap (λ q. lex k q bs) on ∙ lex-further n k (p + 1) bs
-      | begin ↦ ap (λ l. at (p + n) (word (b ∷ run bs)) ∷ l) (ap (λ q. lex mode.Word q bs) on ∙ lex-further n mode.Word (p + 1) bs)
-      | give g ↦ ap (λ l. at (p + n) (sign g) ∷ l) (ap (λ q. lex mode.Blank q bs) on ∙ lex-further n mode.Blank (p + 1) bs)
+      | pass k ↦ ap (λ q. lex k q bs) on ∙ lex_further n k (p + 1) bs
+      | begin ↦ ap (λ l. at (p + n) (word (b ∷ run bs)) ∷ l) (ap (λ q. lex mode.Word q bs) on ∙ lex_further n mode.Word (p + 1) bs)
+      | give g ↦ ap (λ l. at (p + n) (sign g) ∷ l) (ap (λ q. lex mode.Blank q bs) on ∙ lex_further n mode.Blank (p + 1) bs)
     ]
     ∙ ap (map (moved n)) (sym (lex-cons m p b bs))
 
-pub tokens-further : (n : ℕ) (v : List ℕ) → lex mode.Blank n v ≡ map (moved n) (tokens_of v)
-tokens-further n v = ap (λ k. lex mode.Blank k v) (sym (zero-add n)) ∙ lex-further n mode.Blank 0 v
+pub tokens_further : (n : ℕ) (v : List ℕ) → lex mode.Blank n v ≡ map (moved n) (tokens_of v)
+tokens_further n v = ap (λ k. lex mode.Blank k v) (sym (zero-add n)) ∙ lex_further n mode.Blank 0 v
 
 pub reading-further : (n : ℕ) (c : Composed) (p : Position) (ts : List Piece) → reading c p (map (moved n) ts) ≡ further n (reading c p ts)
 reading-further n c p [] = reading-nil c p ∙ ap (further n) (sym (reading-nil c p))
@@ -51,4 +51,4 @@ moved_from n [] = tt
 moved_from n (at p s ∷ ts) = (omega arith, moved_from n ts)
 
 pub places_from : (n : ℕ) (v : List ℕ) → AllByRecursion (λ t. n ≤ offset t) (lex mode.Blank n v)
-places_from n v = subst (AllByRecursion (λ t. n ≤ offset t)) (sym (tokens-further n v)) (moved_from n (tokens_of v))
+places_from n v = subst (AllByRecursion (λ t. n ≤ offset t)) (sym (tokens_further n v)) (moved_from n (tokens_of v))

@@ -19,7 +19,7 @@ use Rattle.reader.specs.declared.position.Position.TheVariants.{Start}
 use Rattle.reading_laws.specs.Exact.{Taken}
 use Rattle.reading_laws.specs.Turns.{TextsJoinedByALineFeedAreReadInTurn}
 use Rattle.reading_laws.proofs.Exact.{taken_goes_on, read_is_whole, reading_is_exact, refused_is_not_taken}
-use Rattle.reading_laws.proofs.Places.{tokens-further, reading-further}
+use Rattle.reading_laws.proofs.Places.{tokens_further, reading-further}
 use Rattle.reading_laws.proofs.Steps.{reading_by, reading-cons}
 
 -- ── A text that is read is clean ──
@@ -55,5 +55,5 @@ texts_joined_by_a_line_feed_are_read_in_turn order joined c d u v h =
     ∙ taken_goes_on c Start (front (tokens_of u)) (at (length u) (sign mark.End) ∷ rest) d whole.before whole.taken
     ∙ reading-cons d whole.before (length u) (sign mark.End) rest
     ∙ ap (λ x. reading_by x (length u) rest) whole.feeds
-    ∙ ap (reading d Start) (tokens-further (length u + 1) v)
+    ∙ ap (reading d Start) (tokens_further (length u + 1) v)
     ∙ reading-further (length u + 1) d Start (tokens_of v)

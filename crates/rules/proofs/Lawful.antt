@@ -43,17 +43,17 @@ says_more rs p r m s none = (
   ),
 )
 
-above-says : (rs : List Rule) (p : List ℕ) (r : Rule) (m : ℕ) → above rs p m ≡ Some r → Says rs p r m
+above_says : (rs : List Rule) (p : List ℕ) (r : Rule) (m : ℕ) → above rs p m ≡ Some r → Says rs p r m
 unfolding above
-above-says rs p r zero e = none_is_not_some e
-above-says rs p r (suc m) e =
+above_says rs p r zero e = none_is_not_some e
+above_says rs p r (suc m) e =
     ⊎_elim
     (λ a.
     ⊎_elim
     (λ s. (m, (a, s, λ k l h. absurd (omega arith))))
-    (λ s. says_more rs p r m (above-says rs p r m s.1) (λ _. s.0))
+    (λ s. says_more rs p r m (above_says rs p r m s.1) (λ _. s.0))
     (first_or_second (under rs (take m p)) _ r (sym (cond-true _ _ _ a) ∙ e)))
-    (λ a. says_more rs p r m (above-says rs p r m (sym (cond-false _ _ _ a) ∙ e)) (λ b. absurd (true≢false (sym b ∙ a))))
+    (λ a. says_more rs p r m (above_says rs p r m (sym (cond-false _ _ _ a) ∙ e)) (λ b. absurd (true≢false (sym b ∙ a))))
     (cases_Bool (ancestor p m))
 
 -- an ancestor is shorter
@@ -65,7 +65,7 @@ unfolding deciding
 decided rs p r e =
     ⊎_elim inl
     (λ h.
-    inr (h.0, ⊎_elim inl (λ g. inr (g.0, longest (above-says rs p r (length p) g.1))) (first_or_second (rule_on rs R p) _ r h.1)))
+    inr (h.0, ⊎_elim inl (λ g. inr (g.0, longest (above_says rs p r (length p) g.1))) (first_or_second (rule_on rs R p) _ r h.1)))
     (first_or_second (rule_on rs E p) _ r e)
   where
     longest : Says rs p r (length p) → Longest rs p r
@@ -151,9 +151,9 @@ some_mapped None e = e
 some_mapped (Some x) e = refl
 
 module _ (rs : List Rule) (root : is_some (rule_on rs R (codes "/")) ≡ true) where
-  above-some : (x : ℕ) (xs : List ℕ) → x ≡ 47 → 1 < length (x ∷ xs) → is_some (above rs (x ∷ xs) (length (x ∷ xs))) ≡ true
+  above_some : (x : ℕ) (xs : List ℕ) → x ≡ 47 → 1 < length (x ∷ xs) → is_some (above rs (x ∷ xs) (length (x ∷ xs))) ≡ true
   unfolding above
-  above-some x xs e l =
+  above_some x xs e l =
       le_ind {n = 2} (λ m. is_some (above rs (x ∷ xs) m) ≡ true)
       (let a : ancestor (x ∷ xs) 1 ≡ true = and_from _ _ (lt-ltb 1 (length (x ∷ xs)) l) refl in
       ap is_some (cond-true _ _ _ a)
@@ -168,7 +168,7 @@ module _ (rs : List Rule) (root : is_some (rule_on rs R (codes "/")) ≡ true) w
   slash_decided (x ∷ xs) l e =
       some_right (rule_on rs E (x ∷ xs)) _
       (⊎_elim
-      (λ h. some_right (rule_on rs R (x ∷ xs)) _ (above-some x xs e h))
+      (λ h. some_right (rule_on rs R (x ∷ xs)) _ (above_some x xs e h))
       (λ h.
       let r : x ∷ xs ≡ codes "/" = text_from_reads (x ∷ xs) (codes "/") (omega arith) (e, tt) in
       some_left (rule_on rs R (x ∷ xs)) _ (ap (λ z. is_some (rule_on rs R z)) r ∙ root))

@@ -87,12 +87,12 @@ module _ (text : List ℕ) (m : Mode) (p b : ℕ) (bs : List ℕ) (left : drop p
       let is = byte_at text p b bs left in
       stray_class b (feeds bs) (ap word_byte (sym is) ∙ s.unworded) (λ e. s.unspace (is ∙ e)) (λ e. s.untab (is ∙ e)) (λ e. s.unfeed (is ∙ e)) (λ e. s.unhash (is ∙ e)) (λ e. s.unopen (is ∙ e)) (λ e. s.unclose (is ∙ e)) (λ e f. s.unjoined (is ∙ e) (feed_behind f))
 
-  mark-read : (g : Mark) → MarkAt text p g → Seen text (at p (sign g)) → deed m (class_at b bs) ≡ give g
-  mark-read mark.Open is s = ap (deed m) (classed_as 40 class.Open is refl) ∙ reads_mark m mark.Open (sym told.hidden ∙ s) (uncontinued 40 is refl) (λ l. let z : ◌≡◌ {A = ℕ} 0 1 = cc in omega arith)
-  mark-read mark.Close is s = ap (deed m) (classed_as 41 class.Close is refl) ∙ reads_mark m mark.Close (sym told.hidden ∙ s) (uncontinued 41 is refl) (λ l. let z : ◌≡◌ {A = ℕ} 0 1 = cc in omega arith)
-  mark-read mark.End is s = ap (deed m) (classed_as 10 class.Feed is refl) ∙ reads_end m (λ c. told.joined c s)
-  mark-read mark.Last is s = absurd (omega (arith, within_text text p b bs left))
-  mark-read mark.Stray is s = ap (deed m) (classed_stray is) ∙ reads_mark m mark.Stray (sym told.hidden ∙ s) (λ c. is.unfeed (byte_at text p b bs left ∙ eqb-true b 10 (told.feed c))) (λ l. let z : ◌≡◌ {A = ℕ} 0 1 = cc in omega arith)
+  mark_read : (g : Mark) → MarkAt text p g → Seen text (at p (sign g)) → deed m (class_at b bs) ≡ give g
+  mark_read mark.Open is s = ap (deed m) (classed_as 40 class.Open is refl) ∙ reads_mark m mark.Open (sym told.hidden ∙ s) (uncontinued 40 is refl) (λ l. let z : ◌≡◌ {A = ℕ} 0 1 = cc in omega arith)
+  mark_read mark.Close is s = ap (deed m) (classed_as 41 class.Close is refl) ∙ reads_mark m mark.Close (sym told.hidden ∙ s) (uncontinued 41 is refl) (λ l. let z : ◌≡◌ {A = ℕ} 0 1 = cc in omega arith)
+  mark_read mark.End is s = ap (deed m) (classed_as 10 class.Feed is refl) ∙ reads_end m (λ c. told.joined c s)
+  mark_read mark.Last is s = absurd (omega (arith, within_text text p b bs left))
+  mark_read mark.Stray is s = ap (deed m) (classed_stray is) ∙ reads_mark m mark.Stray (sym told.hidden ∙ s) (λ c. is.unfeed (byte_at text p b bs left ∙ eqb-true b 10 (told.feed c))) (λ l. let z : ◌≡◌ {A = ℕ} 0 1 = cc in omega arith)
 
   word_byte_begins : (n : Mode) → m ≡ n → p + ahead n (b ∷ bs) ≤ p → commented text p ≡ false → word_byte b ≡ true → deed n (class_at b bs) ≡ begin
   word_byte_begins mode.Blank is a c w = reads_word (class_at b bs) (plain_is_word_byte b bs ∙ w)
@@ -116,7 +116,7 @@ marks_kept text m p (b ∷ bs) left told q g low in' is s =
     (λ e.
     let Here : ℕ → Type 0 = λ n. MarkAt text n g × Seen text (at n (sign g)) in
     let here = subst Here (sym e) (is, s) in
-    let reads = lex-cons m p b bs ∙ ap (λ d. lex_by d p b bs) (mark-read text m p b bs left told g here.0 here.1) in
+    let reads = lex-cons m p b bs ∙ ap (λ d. lex_by d p b bs) (mark_read text m p b bs left told g here.0 here.1) in
     subst There (sym reads) (rw (← e) (has_first (at p (sign g)) (lex mode.Blank (p + 1) bs))))
     (λ far.
     let next : p + 1 ≤ q = omega arith in
@@ -178,8 +178,8 @@ seen_from text m p (b ∷ bs) left told =
     ]) refl)
 
 -- the beginning of a text
-told-first : (text : List ℕ) → Tells text mode.Blank 0 text
-told-first text =
+told_first : (text : List ℕ) → Tells text mode.Blank 0 text
+told_first text =
     record {
       hidden = refl;
       unjoined = λ c f q e. absurd (omega arith);
@@ -189,9 +189,9 @@ told-first text =
 
 pub nothing_is_lost : NothingIsLost
 nothing_is_lost text p in' =
-    let kept = λ (g : Mark). marks_kept text mode.Blank 0 text refl (told-first text) p g (omega arith) in' in
+    let kept = λ (g : Mark). marks_kept text mode.Blank 0 text refl (told_first text) p g (omega arith) in' in
     record {
-      words = words_kept text mode.Blank 0 text refl (told-first text) p (omega arith) in';
+      words = words_kept text mode.Blank 0 text refl (told_first text) p (omega arith) in';
       opens = λ c is. kept mark.Open is c;
       closes = λ c is. kept mark.Close is c;
       strays = λ c is. kept mark.Stray is c;
@@ -199,4 +199,4 @@ nothing_is_lost text p in' =
     }
 
 pub nothing_hidden_is_seen : NothingHiddenIsSeen
-nothing_hidden_is_seen text = seen_from text mode.Blank 0 text refl (told-first text)
+nothing_hidden_is_seen text = seen_from text mode.Blank 0 text refl (told_first text)

@@ -15,7 +15,7 @@ use Rattle.rules.proofs.Adds.{distinct_after_push, not_refused}
 use Rattle.rules.specs.declared.rule.Rule.{Rule}
 use Rattle.tables.proofs.Enters.{few_after_push}
 use Rattle.tables.specs.Begins.{declared_in}
-use Rattle.tables.specs.Holdings.{nothing as holds-nothing, rights_on, listed, with_rights, with_passage}
+use Rattle.tables.specs.Holdings.{nothing as holds_nothing, rights_on, listed, with_rights, with_passage}
 use Rattle.tables.specs.Model.{Model, holding_of, with_type, with_domain, with_default, with_rule, with_object, with_entry, with_holding, with_apart, unless, refuses_type, refuses_domain, refuses_default, refuses_rule, refuses_object, refuses_entry, refuses_rights, refuses_passage, refuses_apart}
 use Rattle.tables.specs.declared.entry.Entry.{Entry}
 use Rattle.tables.specs.declared.holding.Holding.{Holding}
@@ -79,7 +79,7 @@ no_passage_beyond h Exec d Exec e l n = after_write (λ x. x ≡ false) h.execs 
 
 -- ── Before any module ──
 
-no_passage : (how : Passage) (e : ℕ) → listed holds-nothing how e ≡ false
+no_passage : (how : Passage) (e : ℕ) → listed holds_nothing how e ≡ false
 no_passage Auto e = in_copies (λ x. x ≡ false) 32 e false false refl refl
 no_passage Exec e = in_copies (λ x. x ≡ false) 32 e false false refl refl
 
@@ -102,8 +102,8 @@ nothing_is_sound = record {
     rules = tt;
     aparts = tt;
     entries = tt;
-    rights = λ d t _. in_copies (λ h. rights_on h t ≡ none) 32 d holds-nothing _ (in_copies (λ x. x ≡ none) 64 t none none refl refl) refl;
-    passages = λ d how e _. in_copies (λ h. listed h how e ≡ false) 32 d holds-nothing _ (no_passage how e) (none_past how e);
+    rights = λ d t _. in_copies (λ h. rights_on h t ≡ none) 32 d holds_nothing _ (in_copies (λ x. x ≡ none) 64 t none none refl refl) refl;
+    passages = λ d how e _. in_copies (λ h. listed h how e ≡ false) 32 d holds_nothing _ (no_passage how e) (none_past how e);
   };
   specified = λ d _. in_copies (λ x. x ≡ false) 32 d.0 false false refl refl;
 }
@@ -119,8 +119,8 @@ once_elsewhere m first holdings aparts o = record { types = o.types; domains = o
 module _ (c : Composed) (s : Sound c) where
   -- ── Declarations ──
 
-  type-keeps-sound : (n : Name) → refuses_type c.tables n ≡ None → Sound (tabled c (with_type c.tables n))
-  type-keeps-sound n e =
+  type_keeps_sound : (n : Name) → refuses_type c.tables n ≡ None → Sound (tabled c (with_type c.tables n))
+  type_keeps_sound n e =
       let h = not_refused _ _ _ (sym e) in
       let l = longer c.tables.types n in
       record {
@@ -366,7 +366,7 @@ module _ (c : Composed) (s : Sound c) where
 
 sound_is_preserved : Preserved Sound
 sound_is_preserved = record {
-  type = type-keeps-sound;
+  type = type_keeps_sound;
   domain = domain_keeps_sound;
   default = default_keeps_sound;
   rule = rule_keeps_sound;

@@ -71,7 +71,7 @@ extends_further a b c x y = record {
 letters_stay : (h : Holding) (t : ℕ) (r : Rights) (u l : ℕ) → has (rights_on h u) l ≡ true → has (rights_on (with_rights h t r) u) l ≡ true
 letters_stay h t r u l e =
     after_write (λ x. has x l ≡ true) h.rights t u (union (rights_on h t) r) none
-    (λ q. sets.union-has (rights_on h t) r l ∙ or_left _ _ (ap (λ v. has (rights_on h v) l) (sym q) ∙ e))
+    (λ q. sets.union_has (rights_on h t) r l ∙ or_left _ _ (ap (λ v. has (rights_on h v) l) (sym q) ∙ e))
     e
 
 letters_beside : (h : Holding) (how : Passage) (e t l : ℕ) → has (rights_on h t) l ≡ true → has (rights_on (with_passage h how e) t) l ≡ true
@@ -91,9 +91,9 @@ passages_beside h t r Exec e p = p
 -- ── Statements ──
 
 -- where a default domain is not refused, none is set
-none-set : (first : Option Dom) (x : Refusal) (o : Option Refusal) → cond (is_some first) (Some x) o ≡ None → (d : Dom) → first ≡ Some d → ⊥
-none-set None x o e d q = let z : ◌≡◌ {A = ℕ} 0 1 = cc in omega arith
-none-set (Some y) x o e d q = let z : ◌≡◌ {A = ℕ} 0 1 = cc in omega arith
+none_set : (first : Option Dom) (x : Refusal) (o : Option Refusal) → cond (is_some first) (Some x) o ≡ None → (d : Dom) → first ≡ Some d → ⊥
+none_set None x o e d q = let z : ◌≡◌ {A = ℕ} 0 1 = cc in omega arith
+none_set (Some y) x o e d q = let z : ◌≡◌ {A = ℕ} 0 1 = cc in omega arith
 
 module _ (c : Composed) where
   -- longer lists, and all else as it was
@@ -111,8 +111,8 @@ module _ (c : Composed) where
     specified = λ d e. e;
   }
 
-  type-extends : (n : Name) → Extends c (tabled c (with_type c.tables n))
-  type-extends n = lists_extend _ _ _ _ _ _ (pushed _ n) (same _) (same _) (same _) (same _) (same _)
+  type_extends : (n : Name) → Extends c (tabled c (with_type c.tables n))
+  type_extends n = lists_extend _ _ _ _ _ _ (pushed _ n) (same _) (same _) (same _) (same _) (same _)
 
   domain_extends : (n : Name) → Extends c (tabled c (with_domain c.tables n))
   domain_extends n = lists_extend _ _ _ _ _ _ (same _) (pushed _ n) (same _) (same _) (same _) (same _)
@@ -137,7 +137,7 @@ module _ (c : Composed) where
     objects = same _;
     entries = same _;
     aparts = same _;
-    first = λ x q. absurd (none-set c.tables.first _ _ e x q);
+    first = λ x q. absurd (none_set c.tables.first _ _ e x q);
     rights = λ d t l e. e;
     passages = λ d how f e. e;
     specified = λ d e. e;
@@ -188,7 +188,7 @@ module _ (c : Composed) where
 
 extending_is_preserved : (before : Composed) → Preserved (Extends before)
 extending_is_preserved before = record {
-  type = λ c x n _. extends_further _ c _ x (type-extends c n);
+  type = λ c x n _. extends_further _ c _ x (type_extends c n);
   domain = λ c x n _. extends_further _ c _ x (domain_extends c n);
   default = λ c x d e. extends_further _ c _ x (default_extends c d e);
   rule = λ c x r _. extends_further _ c _ x (rule_extends c r);

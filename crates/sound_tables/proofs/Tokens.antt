@@ -64,8 +64,8 @@ declared_below names w = by (is_name w) (place_of (map name_text names) w) refl
     by true (Some k) e = place_below name_text names w k e
     by false o e = tt
 
-named-declared : (c : Composed) (w : List ℕ) → IfOk (domain_named c w) (λ d. d.0 < length c.tables.domains)
-named-declared c w = by (declared c.tables.domains w) (declared_below c.tables.domains w)
+named_declared : (c : Composed) (w : List ℕ) → IfOk (domain_named c w) (λ d. d.0 < length c.tables.domains)
+named_declared c w = by (declared c.tables.domains w) (declared_below c.tables.domains w)
   where
     by : (x : Result ℕ Reason) → IfOk x (λ k. k < length c.tables.domains) → IfOk (then {B = Dom} x (λ d. Ok (record { 0 = d }))) (λ d. d.0 < length c.tables.domains)
     by (Ok k) h = h
@@ -76,9 +76,9 @@ module _ (Inv : Composed → Type 0) (kept : Preserved Inv) where
   abbrev Keeps : Next → Type 0
   Keeps next = IfOk next (λ n. Inv n.0)
 
-  then-knowing : {A : Type 0} (P : A → Type 0) (x : Result A Reason) (k : A → Next) → IfOk x P → ((a : A) → P a → Keeps (k a)) → Keeps (then x k)
-  then-knowing P (Ok a) k h f = f a h
-  then-knowing P (Err e) k h f = tt
+  then_knowing : {A : Type 0} (P : A → Type 0) (x : Result A Reason) (k : A → Next) → IfOk x P → ((a : A) → P a → Keeps (k a)) → Keeps (then x k)
+  then_knowing P (Ok a) k h f = f a h
+  then_knowing P (Err e) k h f = tt
 
   then_keeps : {A : Type 0} (x : Result A Reason) (k : A → Next) → ((a : A) → Keeps (k a)) → Keeps (then x k)
   then_keeps (Ok a) k f = f a
@@ -158,7 +158,7 @@ module _ (Inv : Composed → Type 0) (kept : Preserved Inv) where
     word_keeps (FirstName sort) w = name_keeps sort w
     word_keeps (MoreNames sort) w = name_keeps sort w
     word_keeps DefaultDomain w = then_keeps (domain_named c w) (set_default c) default_keeps
-    word_keeps Specified w = then-knowing _ (domain_named c w) (specify c) (named-declared c w) specify_keeps
+    word_keeps Specified w = then_knowing _ (domain_named c w) (specify c) (named_declared c w) specify_keeps
     word_keeps Widened w = then_keeps (domain_named c w) (λ d. Ok (c, Open group.Entries d)) (λ d. s)
     word_keeps (Open g d) w = tt
     word_keeps (Within g d) w = member_keeps g d w

@@ -36,13 +36,13 @@ module _ (xs : List Entry) (i : ℕ) (x : Entry) (d : ℕ) (l : i < length xs) (
 
 -- one step of the search for the domains that a path enters
 module _ (xs : List Entry) (i : ℕ) (x : Entry) (p : List ℕ) (l : i < length xs) (is : x ≡ get_or xs i x) (es : List Bool) (inv : (e : ℕ) → e < 32 → (get_or es e false || enters (drop i xs) e p) ≡ enters xs e p) where
-  entered-step : (e : ℕ) → e < 32 → (get_or es e false || (is_for x e p || enters (drop (i + 1) xs) e p)) ≡ enters xs e p
-  entered-step e h =
+  entered_step : (e : ℕ) → e < 32 → (get_or es e false || (is_for x e p || enters (drop (i + 1) xs) e p)) ≡ enters xs e p
+  entered_step e h =
       sym (ap (λ b. get_or es e false || b) (at_drop_more (λ z. enters z e p) xs i x l ∙ ap (λ z. is_for z e p || enters (drop (i + 1) xs) e p) (sym is)))
       ∙ inv e h
 
   unlike : (e : ℕ) → e < 32 → is_for x e p ≡ false → (get_or es e false || enters (drop (i + 1) xs) e p) ≡ enters xs e p
-  unlike e h t = sym (ap (λ b. get_or es e false || (b || enters (drop (i + 1) xs) e p)) t) ∙ entered-step e h
+  unlike e h t = sym (ap (λ b. get_or es e false || (b || enters (drop (i + 1) xs) e p)) t) ∙ entered_step e h
 
   pub entered_here : (after : List Bool) → after ≡ set es x.dom.0 true → x.dom.0 < length es → true ≡ bytes_eq (text x.path) p → (e : ℕ) → e < 32 → (get_or after e false || enters (drop (i + 1) xs) e p) ≡ enters xs e p
   entered_here after a m t e h =
@@ -53,7 +53,7 @@ module _ (xs : List Entry) (i : ℕ) (x : Entry) (p : List ℕ) (l : i < length 
       ap (λ k. get_or (set es x.dom.0 true) k false || enters (drop (i + 1) xs) e p) (sym q)
       ∙ ap (λ b. b || enters (drop (i + 1) xs) e p) (get_or-set_same es x.dom.0 true false m)
       ∙ sym (or_right (get_or es e false) _ (or_left _ _ f))
-      ∙ entered-step e h)
+      ∙ entered_step e h)
       (λ q.
       ap (λ b. b || enters (drop (i + 1) xs) e p) (get_or-set_other es x.dom.0 e true false (λ r. q (sym r)))
       ∙ unlike e h (ap (λ b. b && bytes_eq (text x.path) p) (ne_eqb x.dom.0 e q)))
@@ -64,8 +64,8 @@ module _ (xs : List Entry) (i : ℕ) (x : Entry) (p : List ℕ) (l : i < length 
       ap (λ z. get_or z e false || enters (drop (i + 1) xs) e p) a
       ∙ unlike e h (ap (λ b. b && bytes_eq (text x.path) p) (ne_eqb x.dom.0 e (λ q. omega (arith, q))))
 
-  pub entered-not : (after : List Bool) → after ≡ es → false ≡ bytes_eq (text x.path) p → (e : ℕ) → e < 32 → (get_or after e false || enters (drop (i + 1) xs) e p) ≡ enters xs e p
-  entered-not after a t e h =
+  pub entered_not : (after : List Bool) → after ≡ es → false ≡ bytes_eq (text x.path) p → (e : ℕ) → e < 32 → (get_or after e false || enters (drop (i + 1) xs) e p) ≡ enters xs e p
+  entered_not after a t e h =
       ap (λ z. get_or z e false || enters (drop (i + 1) xs) e p) a
       ∙ unlike e h (and_right (eqb x.dom.0 e) _ (sym t))
 

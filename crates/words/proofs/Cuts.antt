@@ -26,12 +26,12 @@ module _ (b : ℕ) (bs : List ℕ) (other : arrow (b ∷ bs) ≡ false) where
   not_in_front : ArrowAt (b ∷ bs) 0 → ⊥
   not_in_front e = both_ways _ other ((bytes_eq-Decides _ _).1 e)
 
-  none-behind : NoArrow bs → NoArrow (b ∷ bs)
-  none-behind h zero e = not_in_front e
-  none-behind h (suc m) e = h m e
+  none_behind : NoArrow bs → NoArrow (b ∷ bs)
+  none_behind h zero e = not_in_front e
+  none_behind h (suc m) e = h m e
 
-  first-behind : (k : ℕ) → First bs k → First (b ∷ bs) (suc k)
-  first-behind k f = record { here = f.here; none_before = before }
+  first_behind : (k : ℕ) → First bs k → First (b ∷ bs) (suc k)
+  first_behind k f = record { here = f.here; none_before = before }
     where
       before : (m : ℕ) → m < suc k → ArrowAt (b ∷ bs) m → ⊥
       before zero l e = not_in_front e
@@ -39,8 +39,8 @@ module _ (b : ℕ) (bs : List ℕ) (other : arrow (b ∷ bs) ≡ false) where
 
 found_behind : (i b : ℕ) (bs : List ℕ) (t : Bool) → arrow (b ∷ bs) ≡ t → (o : Option ℕ) → Finds (i + 1) bs o → Finds i (b ∷ bs) (cond t (Some i) o)
 found_behind i b bs true t o h = (0, omega arith, record { here = (bytes_eq-Decides _ _).0 t; none_before = λ m l. absurd (omega arith) })
-found_behind i b bs false t None h = none-behind b bs t h
-found_behind i b bs false t (Some j) h = (suc h.0, omega (arith, h.1), first-behind b bs t h.0 h.2)
+found_behind i b bs false t None h = none_behind b bs t h
+found_behind i b bs false t (Some j) h = (suc h.0, omega (arith, h.1), first_behind b bs t h.0 h.2)
 
 finds : (i : ℕ) (w : List ℕ) → Finds i w (arrow_from i w)
 unfolding arrow_from

@@ -68,7 +68,7 @@ with_letter_is s l = at (has s l) refl (bit l) (bit_of l)
         record {
           letter = h.letter;
           new = e;
-          has_is = λ m. sets.union-has s (record { bits = n }) m ∙ ap (λ x. has s m || x) (h.alone m);
+          has_is = λ m. sets.union_has s (record { bits = n }) m ∙ ap (λ x. has s m || x) (h.alone m);
           small = λ q. or_lt 6 s.bits n q h.small;
         }
 
@@ -180,13 +180,13 @@ unfolding letters_of
 letters_of_nothing [] e = refl
 letters_of_nothing (b ∷ bs) e = absurd (omega (arith, eqb-true (length (b ∷ bs)) 0 (sym e)))
 
-letters-some : (bs : List ℕ) → (bs ≡ [] → ⊥) → letters_of bs ≡ with_letters none bs
+letters_some : (bs : List ℕ) → (bs ≡ [] → ⊥) → letters_of bs ≡ with_letters none bs
 unfolding letters_of
-letters-some [] some = absurd (some refl)
-letters-some (b ∷ bs) some = refl
+letters_some [] some = absurd (some refl)
+letters_some (b ∷ bs) some = refl
 
 pub letters_of_some : (bs : List ℕ) → false ≡ eqb (length bs) 0 → with_letters none bs ≡ letters_of bs
-letters_of_some bs e = sym (letters-some bs (λ h. eqb-false (length bs) 0 (sym e) (ap length h)))
+letters_of_some bs e = sym (letters_some bs (λ h. eqb-false (length bs) 0 (sym e) (ap length h)))
 
 letters_are : (bs : List ℕ) (s : Rights) → letters_of bs ≡ Some s → OnceEach bs × SetOf bs s
 unfolding letters_of
@@ -203,7 +203,7 @@ letters_are (b ∷ bs) s e =
 letters_make : (bs : List ℕ) → OnceEach bs → (t : Rights) × (letters_of bs ≡ Some t)
 letters_make bs o =
     let m = makes none bs o.letters o.once (λ l a. sets.none_has l) in
-    (m.0, letters-some bs o.some ∙ m.1)
+    (m.0, letters_some bs o.some ∙ m.1)
 
 letters_taken : (bs : List ℕ) (s : Rights) → OnceEach bs → SetOf bs s → letters_of bs ≡ Some s
 letters_taken bs s o h =
@@ -238,6 +238,6 @@ module _ (bs : List ℕ) (i : ℕ) (s : Rights) (o : Option Rights) (l : i < len
   pub letter_refused : o ≡ None → None ≡ with_letters none bs
   letter_refused e = sym (step ∙ ap (λ x. option_flatten (option_map (λ u. with_letters u (drop (i + 1) bs)) x)) e)
 
-pub letters-all : (bs : List ℕ) (i : ℕ) (s : Rights) → length bs ≤ i → with_letters s (drop i bs) ≡ with_letters none bs → Some s ≡ with_letters none bs
+pub letters_all : (bs : List ℕ) (i : ℕ) (s : Rights) → length bs ≤ i → with_letters s (drop i bs) ≡ with_letters none bs → Some s ≡ with_letters none bs
 unfolding with_letters
-letters-all bs i s l inv = sym (at_drop_all (with_letters s) bs i l) ∙ inv
+letters_all bs i s l inv = sym (at_drop_all (with_letters s) bs i l) ∙ inv

@@ -25,9 +25,9 @@ module _ {K : Type 0} (spelling : K → List ℕ) where
   pub read_as_spelled : (ks : List K) → ((k : K) → spelled_so spelling ks (spelling k) ≡ Some k) → ReadAsSpelled spelling (spelled_so spelling ks)
   read_as_spelled ks own w k = (spelled_is ks w k, λ e. ap (spelled_so spelling ks) e ∙ own k)
 
-pub keywords-read : ReadAsSpelled keyword_text keyword_of
+pub keywords_read : ReadAsSpelled keyword_text keyword_of
 unfolding keyword_of
-keywords-read = read_as_spelled keyword_text keywords own
+keywords_read = read_as_spelled keyword_text keywords own
   where
     own : (k : Keyword) → spelled_so keyword_text keywords (keyword_text k) ≡ Some k
     own Types = refl

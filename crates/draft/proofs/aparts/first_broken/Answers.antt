@@ -5,7 +5,7 @@ use Rattle.policy.specs.Abstract.{asked}
 use Rattle.policy.specs.Holds.{model_of}
 use Rattle.draft.specs.Breaks.{Chained}
 use Rattle.draft.specs.Endings.{KeptApart, FirstBroken}
-use Rattle.draft.proofs.Breaking.{broken_here, all-kept}
+use Rattle.draft.proofs.Breaking.{broken_here, all_kept}
 use Rattle.draft.proofs.aparts.first_broken.Goals as goal
 
 none : Apart
@@ -34,4 +34,4 @@ pub returns : goal.returns
 returns c =
     let e : c.aparts-apart-items.result.now ≡ (model_of c.args.decisions.now.policy).aparts = search rules in
     let l : length (model_of c.args.decisions.now.policy).aparts ≤ c.loop-apart.apart-index = subst (λ xs. length xs ≤ c.loop-apart.apart-index) e (search rules) in
-    all-kept (asked c.args.decisions.now.policy) _ (record { from = record { 0 = 0 }; to = record { 0 = 0 } }) c.loop-apart.apart-index l c.loop-apart.invariant
+    all_kept (asked c.args.decisions.now.policy) _ (record { from = record { 0 = 0 }; to = record { 0 = 0 } }) c.loop-apart.apart-index l c.loop-apart.invariant

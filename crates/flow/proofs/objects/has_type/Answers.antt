@@ -5,7 +5,7 @@ use Rattle.label.specs.declared.refusal.Refusal.TheVariants.{NoObject}
 use Rattle.policy.specs.Grants.{no_object}
 use Rattle.policy.specs.Holds.{model_of}
 use Rattle.policy.specs.Sheets.{type_number}
-use Rattle.flow.proofs.Allowed.{type-told, no_type_told}
+use Rattle.flow.proofs.Allowed.{type_told, no_type_told}
 use Rattle.flow.proofs.objects.has_type.Goals as goal
 
 typed : (b : Bool) (t is : Typ) → ◌≡◌ {A = Result Typ Refusal} (Ok is) (cond b (Err NoObject) (Ok t)) → (b ≡ false) × (is.0 ≡ t.0)
@@ -20,7 +20,7 @@ pub returns-in-Ok : goal.returns-in-Ok
 returns-in-Ok c =
     let p = c.args.policy.now.policy in
     let h = typed (no_object (model_of p) c.args.obj.0) (record { 0 = type_number (model_of p) c.args.obj.0 }) c.in-Ok.is' c.in-Ok.ensures in
-    ap (λ n. eqb n c.args.typ.0) h.1 ∙ type-told p c.args.obj.0 c.args.typ.0 h.0
+    ap (λ n. eqb n c.args.typ.0) h.1 ∙ type_told p c.args.obj.0 c.args.typ.0 h.0
 
 pub returns-in-Err : goal.returns-in-Err
 returns-in-Err c =

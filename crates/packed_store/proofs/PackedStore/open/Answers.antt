@@ -1,5 +1,5 @@
 use Rattle.std.proofs.Common.{refl}
-use Rattle.packed_store.proofs.Tables.{opened_is_intact, opened_is_octets, damaged_holds_none, intact-holds}
+use Rattle.packed_store.proofs.Tables.{opened_is_intact, opened_is_octets, damaged_holds_none, intact_holds}
 use Rattle.packed_store.proofs.PackedStore.open.Goals as goal
 
 pub returns-then-not-are_intact : goal.returns-then-not-are_intact
@@ -14,4 +14,4 @@ invariant_of-result c = record {
 
 pub returns : goal.returns
 returns c =
-    (refl, intact-holds _ (opened_is_intact _ _ _ c.as_slice.ensures.value c.are_intact.ensures.intact c.if-not-are_intact.false))
+    (refl, intact_holds _ (opened_is_intact _ _ _ c.as_slice.ensures.value c.are_intact.ensures.intact c.if-not-are_intact.false))

@@ -1,7 +1,7 @@
 use Rattle.std.proofs.Common.{◌≡◌, ◌+◌, length, sym, ◌∙◌, subst, length-set}
 use Rattle.std.proofs.lemmas.Bool.{both_ways}
 use Rattle.clash.specs.declared.sharing.Row.{Row}
-use Rattle.clash.proofs.Marks.{Marking, marked_too, beyond, not-above, by_another_path, all-marked}
+use Rattle.clash.proofs.Marks.{Marking, marked_too, beyond, not_above, by_another_path, all_marked}
 use Rattle.clash.proofs.sharing.Row.mark_entered.Goals as goal
 use Rattle.clash.proofs.sharing.Row.mark_entered.Goals.{then-low-dom+then-dom-lt32+then-are_same, else-low-dom, else-low-dom-via-then-low-dom+then-dom-lt32+else-are_same, else-low-dom-via-then-low-dom+else-dom-lt32, else-low-dom-via-else-low-dom}
 
@@ -12,7 +12,7 @@ loop-entry-preserved c =
     let p = c.args.path.now in
     let i = c.loop-entry.entry-index in
     let x = c.entry-item.result in
-    let is-next = c.loop-entry-test.true in
+    let is_next = c.loop-entry-test.true in
     let before = c.args.self.now in
     let row = c.loop-entry.self in
     let inv = c.loop-entry.invariant in
@@ -21,7 +21,7 @@ loop-entry-preserved c =
       | then-low-dom+then-dom-lt32+then-are_same w ↦
           subst Goal (sym w.self-is) (
             rw length-set inv.0,
-            marked_too xs i x is-next c.entry-item.is e p before row inv.1 inv.0 w.if-dom-lt32.true
+            marked_too xs i x is_next c.entry-item.is e p before row inv.1 inv.0 w.if-dom-lt32.true
                 (sym w.as_bytes.ensures.value ∙ w.are_same.ensures.0 w.if-are_same.true),
           )
       | else-low-dom w ↦
@@ -29,14 +29,14 @@ loop-entry-preserved c =
             inv.0,
             elim w.else-low-dom.branch [
               | else-low-dom-via-then-low-dom+then-dom-lt32+else-are_same v ↦
-                  by_another_path xs i x is-next c.entry-item.is e p before row inv.1
+                  by_another_path xs i x is_next c.entry-item.is e p before row inv.1
                   (λ q. both_ways _ v.if-are_same.false (v.are_same.ensures.1 (v.as_bytes.ensures.value ∙ q)))
-              | else-low-dom-via-then-low-dom+else-dom-lt32 v ↦ beyond xs i x is-next c.entry-item.is e p before row inv.1 v.if-dom-lt32.false
-              | else-low-dom-via-else-low-dom v ↦ not-above xs i x is-next c.entry-item.is e p before row inv.1 v.if-low-dom.false
+              | else-low-dom-via-then-low-dom+else-dom-lt32 v ↦ beyond xs i x is_next c.entry-item.is e p before row inv.1 v.if-dom-lt32.false
+              | else-low-dom-via-else-low-dom v ↦ not_above xs i x is_next c.entry-item.is e p before row inv.1 v.if-low-dom.false
             ],
           )
     ]
 
 pub returns : goal.returns
 returns c =
-    all-marked c.args.entries.now c.loop-entry.entry-index c.loop-entry-test.false c.args.low c.args.path.now c.args.self.now c.loop-entry.self c.loop-entry.invariant.1
+    all_marked c.args.entries.now c.loop-entry.entry-index c.loop-entry-test.false c.args.low c.args.path.now c.args.self.now c.loop-entry.self c.loop-entry.invariant.1

@@ -13,8 +13,8 @@ invariant_of-result c =
 
 pub returns-then-not-is_path : goal.returns-then-not-is_path
 returns-then-not-is_path c =
-    let no-path : IsPath c.args.s.now → ⊥ = λ n. absurd (false≢true (c.if-not-is_path.ensures.1 n)) in
-    record { reads = (no-path, refl); value = sym (ap (λ o. ok_or o Misshapen) (pathed-none c.args.s.now no-path)) }
+    let no_path : IsPath c.args.s.now → ⊥ = λ n. absurd (false≢true (c.if-not-is_path.ensures.1 n)) in
+    record { reads = (no_path, refl); value = sym (ap (λ o. ok_or o Misshapen) (pathed-none c.args.s.now no_path)) }
 
 pub returns : goal.returns
 returns c =

@@ -1,6 +1,6 @@
 use Rattle.std.proofs.Common.{true, sym, refl, ap, ◌∙◌}
 use Rattle.std.proofs.lemmas.Bool.{true≢false, eq-eqb}
-use Rattle.label.proofs.Shows.{no_letter_put, letter_put, letter_passed, letters-put}
+use Rattle.label.proofs.Shows.{no_letter_put, letter_put, letter_passed, letters_put}
 use Rattle.label.proofs.show.RightsDisplay.fmt.Goals as goal
 use Rattle.label.proofs.show.RightsDisplay.fmt.Goals.{then-has+in_ok-write_char, else-has}
 
@@ -19,6 +19,6 @@ loop-letter-preserved g c plain =
 
 pub returns-clause-writes : goal.returns-clause-writes
 returns-clause-writes g c plain ok =
-    letters-put g.W.Write.write_str_gives c.args.self.now _ _ _ c.loop-letter-test.false
+    letters_put g.W.Write.write_str_gives c.args.self.now _ _ _ c.loop-letter-test.false
     (λ e. true≢false (sym (c.eq.ensures ∙ eq-eqb _ _ (e ∙ ap (λ s. s.bits) (sym c.none.ensures))) ∙ c.if-eq.false))
     (c.loop-letter.invariant plain)

@@ -3,7 +3,7 @@ use Rattle.label.specs.Letters.{has}
 use Rattle.policy.specs.Cells.{cell_of}
 use Rattle.policy.specs.Grants.{verdict, grant_on}
 use Rattle.policy.specs.Holds.{model_of, refusal}
-use Rattle.policy.proofs.Answers.{refused_answer, both_known, known-answer}
+use Rattle.policy.proofs.Answers.{refused_answer, both_known, known_answer}
 use Rattle.policy.proofs.sealed.Sealed.decide.Goals as goal
 
 pub returns-in-Some : goal.returns-in-Some
@@ -18,4 +18,4 @@ returns c =
     let l = c.args.letter in
     c.refused.ensures
     ∙ ap refusal (c.grant.ensures ∙ ap (λ x. verdict x.barrier (has x.letters l) x.long l) c.cell.ensures)
-    ∙ sym (known-answer (model_of c.args.self.now.policy) c.args.dom.0 c.args.obj.0 _ c.in_default.ensures)
+    ∙ sym (known_answer (model_of c.args.self.now.policy) c.args.dom.0 c.args.obj.0 _ c.in_default.ensures)

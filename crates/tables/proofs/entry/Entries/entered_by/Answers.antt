@@ -2,7 +2,7 @@ use Rattle.std.proofs.Common.{◌<◌, false, ◌||◌, length, sym, refl, ap, �
 use Rattle.std.specs.Str.{bytes_eq}
 use Rattle.std.proofs.lemmas.List.{length-set, get_or-replicate}
 use Rattle.tables.specs.Entries.{enters, Entered}
-use Rattle.tables.proofs.Enters.{entered_here, entered_elsewhere, entered-not, entered_at_end}
+use Rattle.tables.proofs.Enters.{entered_here, entered_elsewhere, entered_not, entered_at_end}
 use Rattle.tables.proofs.entry.Entries.entered_by.Goals as goal
 use Rattle.tables.proofs.entry.Entries.entered_by.Goals.{then-e-lt32+then-are_same, else-e-lt32, else-e-lt32-via-then-e-lt32+else-are_same, else-e-lt32-via-else-e-lt32}
 
@@ -23,7 +23,7 @@ loop-entry-preserved c =
       | else-e-lt32 w ↦ (
         ap length w.entered-is ∙ c.loop-entry.invariant.0,
         elim w.else-e-lt32.branch [
-          | else-e-lt32-via-then-e-lt32+else-are_same v ↦ entered-not _ _ x p c.loop-entry-test.true c.entry-item.is _ c.loop-entry.invariant.1 _ w.entered-is (sym v.if-are_same.false ∙ v.are_same.ensures ∙ ap (λ t. bytes_eq t p) v.as_bytes.ensures.value)
+          | else-e-lt32-via-then-e-lt32+else-are_same v ↦ entered_not _ _ x p c.loop-entry-test.true c.entry-item.is _ c.loop-entry.invariant.1 _ w.entered-is (sym v.if-are_same.false ∙ v.are_same.ensures ∙ ap (λ t. bytes_eq t p) v.as_bytes.ensures.value)
           | else-e-lt32-via-else-e-lt32 v ↦ entered_elsewhere _ _ x p c.loop-entry-test.true c.entry-item.is _ c.loop-entry.invariant.1 _ w.entered-is v.if-e-lt32.false
         ],
       )
