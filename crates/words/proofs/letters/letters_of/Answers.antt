@@ -7,7 +7,7 @@ pub returns-then-is_empty : goal.returns-then-is_empty
 returns-then-is_empty c = letters_of_nothing c.args.bytes.now c.if-is_empty.ensures
 
 pub loop-b-init : goal.loop-b-init
-loop-b-init c = ap (λ s. with_letters s c.args.bytes.now) c.none_set.ensures
+loop-b-init c = ap (λ s. with_letters s c.args.bytes.now) c.none-set.ensures
 
 pub loop-b-preserved : goal.loop-b-preserved
 loop-b-preserved c =
