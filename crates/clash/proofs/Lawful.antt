@@ -1,4 +1,5 @@
 -- The lowest clash is what the laws say.
+use Rattle.std.proofs.lemmas.Option.{none-some}
 use Rattle.std.proofs.Common.{◌≡◌, ℕ, ◌<◌, ◌≤◌, true, false, ◌&&◌, eqb, ltb, List, [], ◌∷◌, length, is_some, Some, None, Option, unwrap_or, sym, refl, ap, ◌∙◌, inl, inr, ⊎_elim, arith}
 use Rattle.std.specs.Option.{option_map}
 use Rattle.std.specs.Str.{bytes_eq}
@@ -44,9 +45,6 @@ none_from : {X : Type 0} (o : Option X) → is_some o ≡ false → o ≡ None
 none_from None h = refl
 none_from (Some x) h = absurd (true≢false h)
 
-none-false : {X : Type 0} (o : Option X) → o ≡ None → is_some o ≡ false
-none-false o h = ap is_some h
-
 module _ (m : Model) (d : ℕ) where
   clash_is : (e f : ℕ) → clashing m d e f ≡ true → Clash m d e f
   clash_is e f h =
@@ -82,9 +80,9 @@ module _ (m : Model) (d : ℕ) where
 
   clear_no_first : Clear m d → is_some (first m d) ≡ false
   clear_no_first clear =
-      none-false (first m d)
+      ap is_some
       (none-lowest (λ k. is_some (second m d k)) (length m.domains)
-      (λ e le. none-false (second m d e) (none-lowest (λ k. ltb e k && clashing m d e k) (length m.domains) (λ f lf. alone e f le lf))))
+      (λ e le. ap is_some (none-lowest (λ k. ltb e k && clashing m d e k) (length m.domains) (λ f lf. alone e f le lf))))
     where
       alone : (e f : ℕ) → e < length m.domains → f < length m.domains → (ltb e f && clashing m d e f) ≡ false
       alone e f le lf =
@@ -121,18 +119,18 @@ module _ (m : Model) where
   higher o = unwrap_or (option_map (λ t. t.1.0) o) 0
 
   by_second : (d x : ℕ) (e f : Dom) (o : Option ℕ) → clashed m ≡ Some d → first m d ≡ Some x → second m d x ≡ o → option_map {U = Dom × Dom} (λ k. (record { 0 = x }, record { 0 = k })) o ≡ Some (e, f) → Named e.0 f.0
-  by_second d x e f None is-d is-e is h = absurd (let z : ◌≡◌ {A = ℕ} 0 1 = cc in omega arith)
+  by_second d x e f None is-d is-e is h = absurd (none-some _ h)
   by_second d x e f (Some y) is-d is-e is h =
       let ex : x ≡ e.0 = ap lower h in
       let fy : y ≡ f.0 = ap higher h in
       record { dom = d; dom_is = is-d; first_is = is-e ∙ ap Some ex; second_is = ap (second m d) (sym ex) ∙ is ∙ ap Some fy }
 
   by_first : (d : ℕ) (e f : Dom) (o : Option ℕ) → clashed m ≡ Some d → first m d ≡ o → pair_from m d o ≡ Some (e, f) → Named e.0 f.0
-  by_first d e f None is-d is h = absurd (let z : ◌≡◌ {A = ℕ} 0 1 = cc in omega arith)
+  by_first d e f None is-d is h = absurd (none-some _ h)
   by_first d e f (Some x) is-d is h = by_second d x e f (second m d x) is-d is refl h
 
   by_domain : (e f : Dom) (o : Option ℕ) → clashed m ≡ o → pair_of m o ≡ Some (e, f) → Named e.0 f.0
-  by_domain e f None is h = absurd (let z : ◌≡◌ {A = ℕ} 0 1 = cc in omega arith)
+  by_domain e f None is h = absurd (none-some _ h)
   by_domain e f (Some d) is h = by_first d e f (first m d) is refl h
 
   named_lowest : (e f : ℕ) → Named e f → LowestClash m e f

@@ -1,3 +1,3 @@
-pub mod Marks
+pub mod Shares
 pub mod Searches
 pub mod Lawful

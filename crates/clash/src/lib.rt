@@ -6,7 +6,6 @@ ghost use Rattle.tables.specs.Model.{model};
 ghost use Rattle.clash.specs.Clashes.{clash};
 ghost use Rattle.clash.specs.Laws.{Laws};
 
-use crate::pairs::find_pair;
 use crate::sharing::Sharing;
 use label::numbers::Dom;
 use tables::table::Tables;
@@ -18,13 +17,8 @@ pub mod sharing;
 pub fn clash(tables: &Tables) -> Option<(Dom, Dom)>
     ensures { result ≡ clash (model tables.now) }
 {
-    let sharing = Sharing::of(tables.entries().as_slice());
-    for d in 0..tables.domain_count() {
-        if let Some(targets) = find_pair(tables, &sharing, Dom(d)) {
-            return Some(targets);
-        }
-    }
-    None
+    let sharing = Sharing::of(tables);
+    (0..tables.domain_count()).find_map(|d| sharing.pair(Dom(d)))
 }
 
 // Tables have no clash exactly where each auto passage is the only one of its domain by its path.

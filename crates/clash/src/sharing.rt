@@ -1,67 +1,62 @@
 //! Which domains have an entry path in common.
-ghost use Rattle.std.specs.Prelude.{◌≡◌, Decides};
-ghost use Rattle.clash.specs.Sharing.{Entered, Sharers, Shared};
+ghost use Rattle.std.specs.Prelude.{◌≡◌, ◌<◌, ◌&&◌, ◌==◌};
+ghost use Rattle.label.specs.Texts.{text};
+ghost use Rattle.tables.specs.Entries.{enters};
+ghost use Rattle.tables.specs.Model.{model};
+ghost use Rattle.clash.specs.Clashes.{shares};
+ghost use Rattle.clash.specs.Sharing.{Sharers, Shared};
 
-use tables::entry::Entry;
+use label::numbers::Dom;
+use std::array;
+use tables::entry::{Entries, Entry};
+use tables::table::Tables;
 
-// A mark for each domain.
-#[derive(Clone, Copy)]
-pub struct Row(pub(crate) [bool; 32]);
+// Tables, and for each domain the higher ones with which it has an entry path in common.
+#[derive(Drop)]
+pub struct Sharing<'a> {
+    pub(crate) tables: &'a Tables,
+    pub(crate) rows: [[bool; 32]; 32],
+    ghost shared: { Shared (model tables.now).entries rows },
+}
 
-// For each domain the higher ones with which it has an entry path in common.
-#[derive(Clone, Copy)]
-pub struct Sharing(pub(crate) [Row; 32]);
-
-// Whether the paths are the same. Most paths that differ begin alike, so the last bytes are looked at first.
-fn are_same(path: &[u8], other: &[u8]) -> bool
-    ensures { Decides result (path.now ≡ other.now) }
+// Whether the entry path is of the one domain, and an entry path of the other too.
+fn is_shared(entries: &Entries, entry: &Entry, dom: Dom, other: Dom) -> bool
+    ensures { result ≡ (entry.now.dom.0 == dom.0 && enters entries.now.list.items other.0 (text entry.now.path)) }
 {
-    let n = path.len();
-    if n != other.len() {
-        return false;
-    }
-    if n > 0 && path[n - 1] != other[n - 1] {
-        return false;
-    }
-    path == other
+    entry.dom == dom && entries.enters(other, entry.path.as_bytes())
 }
 
-impl Row {
-    // Marks the domains above the given one that have the path as an entry path.
-    fn mark_entered(&mut self, entries: &[Entry], low: u8, path: &[u8])
-        ensures { Entered entries.now low path.now self.old self.new }
-    {
-        for entry in entries {
-            let dom = entry.dom.0;
-            if low < dom && dom < 32 && are_same(entry.path.as_bytes(), path) {
-                self.0[dom as usize] = true;
-            }
-        }
-    }
-
-    // The domains above the given one that have an entry path in common with it.
-    fn sharers(entries: &[Entry], low: u8) -> Row
-        ensures { Sharers entries.now low result }
-    {
-        let mut row = Row([false; 32]);
-        for entry in entries {
-            if entry.dom.0 == low {
-                row.mark_entered(entries, low, entry.path.as_bytes());
-            }
-        }
-        row
-    }
+// Whether the two domains have an entry path in common.
+fn shares(tables: &Tables, dom: Dom, other: Dom) -> bool
+    ensures { result ≡ shares (model tables.now).entries dom.0 other.0 }
+{
+    let entries = tables.entries();
+    entries
+        .as_slice()
+        .iter()
+        .any(|entry| is_shared(entries, entry, dom, other))
 }
 
-impl Sharing {
-    // Which of all domains have an entry path in common.
-    pub(crate) fn of(entries: &[Entry]) -> Sharing
-        ensures { Shared entries.now result }
+// Which of the higher domains have an entry path in common with this one.
+fn sharers(tables: &Tables, low: Dom) -> [bool; 32]
+    ensures { Sharers (model tables.now).entries low.0 result }
+{
+    array::from_fn(|f| usize::from(low.0) < f && shares(tables, low, Dom(f as u8)))
+}
+
+impl Sharing<'_> {
+    // Which of all domains have an entry path in common. Each domain's passages are looked up in it, so it is made once.
+    pub(crate) fn of(tables: &Tables) -> Sharing<'_>
+        ensures { result.tables.now ≡ tables.now }
     {
-        let mut table = Sharing([Row([false; 32]); 32]);
-        for e in 0..32u8 {
-            table.0[e as usize] = Row::sharers(entries, e);
+        Sharing {
+            tables,
+            rows: array::from_fn(
+                |e|
+                    requires { e < 32 }
+                    ensures { Sharers (model tables.entry.now).entries e result }
+                { sharers(tables, Dom(e as u8)) },
+            ),
         }
-        table
     }
 }

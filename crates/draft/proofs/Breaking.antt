@@ -1,7 +1,7 @@
 -- Separations, one by one.
-use Rattle.std.proofs.Common.{◌≡◌, ℕ, ◌+◌, ◌<◌, ◌≤◌, Bool, true, List, ◌++◌, length, get_or, take, drop, is_some, Some, None, Option, sym, refl, ap, ◌∙◌, subst}
+use Rattle.std.proofs.Common.{◌≡◌, ℕ, ◌+◌, ◌<◌, Bool, true, List, ◌++◌, length, get_or, take, drop, is_some, Some, None, Option, sym, refl, ap, ◌∙◌, subst}
 use Rattle.std.specs.List.{AllByRecursion}
-use Rattle.std.proofs.lemmas.List.{take-append-drop, drop_more, take_all}
+use Rattle.std.proofs.lemmas.List.{take-append-drop, drop_more}
 use Rattle.machine.specs.Flow.{of_type}
 use Rattle.machine.specs.Policy.{Policy as Asked}
 use Rattle.tables.specs.declared.table.Apart.{Apart}
@@ -36,6 +36,3 @@ module _ (P : Asked) (aparts : List Apart) (d : Apart) where
         links = c.0;
         chain = c.1;
       }
-
-  pub all_kept : (i : ℕ) → length aparts ≤ i → AllByRecursion (KeptApart P) (take i aparts) → AllByRecursion (KeptApart P) aparts
-  all_kept i l kept = subst (AllByRecursion (KeptApart P)) (take_all i aparts l) kept

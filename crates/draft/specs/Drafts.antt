@@ -1,9 +1,11 @@
 -- What a draft holds, and what its calls come to.
-use Rattle.std.specs.Prelude.{◌≡◌, ℕ, ◌+◌, List, Some, None, Ok, Err, Option, Result}
-use Rattle.std.specs.Option.{option_map}
+use Rattle.std.specs.Prelude.{◌≡◌, ℕ, ◌+◌, true, List, Some, None, Ok, Err, Option, Result, refl}
 use Rattle.reader.specs.Composed.{nothing, Composed as Tabled}
 use Rattle.draft.specs.Composing.{tabled, Composes}
+use Rattle.draft.specs.Phases.{phase_in, in_phase}
 use Rattle.draft.specs.declared.draft.Draft.{Draft}
+use Rattle.draft.specs.declared.draft.State.{State}
+use Rattle.draft.specs.declared.draft.State.TheVariants as state
 use Rattle.draft.specs.declared.fault.Failure.{Failure}
 use Rattle.draft.specs.declared.phase.Phase.{Phase}
 use Rattle.draft.specs.declared.phase.Phase.TheVariants.{Blank, Rest, Trial}
@@ -15,8 +17,30 @@ pub record View : Type 0 where
   pub kept : Option Tabled
   pub tried : Option Tabled
 
+-- the phase that the draft is in
+abbrev pub phase_of : Draft → Phase
+phase_of d = phase_in d.state
+
+-- what the modules that were kept come to
+abbrev pub kept_in : State → Option Tabled
+kept_in state.Blank = None
+kept_in (state.Rest c) = Some (tabled c)
+kept_in (state.Trial c t) = Some (tabled c)
+
+-- what they come to with the module on trial
+abbrev pub tried_in : State → Option Tabled
+tried_in state.Blank = None
+tried_in (state.Rest c) = None
+tried_in (state.Trial c t) = Some (tabled t)
+
+-- a draft holds what its phase says
+pub held_in_phase : (s : State) → in_phase (phase_in s) (kept_in s) (tried_in s) ≡ true
+held_in_phase state.Blank = refl
+held_in_phase (state.Rest c) = refl
+held_in_phase (state.Trial c t) = refl
+
 abbrev pub view : Draft → View
-view d = record { phase = d.phase; modules = d.modules; kept = option_map tabled d.kept; tried = option_map tabled d.tried }
+view d = record { phase = phase_of d; modules = d.modules; kept = kept_in d.state; tried = tried_in d.state }
 
 abbrev pub blank : View
 blank = record { phase = Blank; modules = 0; kept = None; tried = None }

@@ -1,7 +1,15 @@
 -- The phases of a draft.
 use Rattle.std.specs.Prelude.{ℕ, Bool, not, ◌&&◌, is_some, Option, nat_le}
+use Rattle.draft.specs.declared.draft.State.{State}
+use Rattle.draft.specs.declared.draft.State.TheVariants as state
 use Rattle.draft.specs.declared.phase.Phase.{Phase}
 use Rattle.draft.specs.declared.phase.Phase.TheVariants.{Blank, Rest, Trial}
+
+-- the phase in which a draft holds this
+abbrev pub phase_in : State → Phase
+phase_in state.Blank = Blank
+phase_in (state.Rest kept) = Rest
+phase_in (state.Trial kept tried) = Trial
 
 -- what is kept and what is tried in each phase
 abbrev pub in_phase : {X : Type 0} → Phase → Option X → Option X → Bool

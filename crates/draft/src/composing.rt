@@ -6,8 +6,10 @@ ghost use Rattle.reader.specs.Reading.{read as reading_after, tables};
 ghost use Rattle.reader.specs.Stops.{Reads as ReadsText};
 ghost use Rattle.draft.specs.Composing.{tabled, outcome, Composes, Reads, located, unread};
 ghost use Rattle.draft.specs.Drafts.{base as base_of};
+ghost use Rattle.draft.specs.declared.fault.Failure.TheVariants.{Faulty};
 
 use crate::fault::{Failure, Fault};
+use crate::module::Module;
 use crate::settled::Composed;
 use crate::settling::settle;
 use reader::composition::Composition;
@@ -18,34 +20,11 @@ use scan::lines::line_of;
 use std::alloc::Global;
 use tables::table::Tables;
 
-fn locate(kept: usize, text: &[u8], reason: Reason, place: usize) -> Fault
-    requires { kept ≤ 8 }
-    ensures { result ≡ located kept text.now reason place }
-{
-    Fault {
-        reason,
-        module: kept + 1,
-        line: line_of(text, place),
-        place,
-    }
-}
-
-fn leave_unread(kept: usize) -> Fault
-    requires { kept ≤ 8 }
-    ensures { result ≡ unread kept }
-{
-    Fault {
-        reason: Reason::TooMuch,
-        module: kept + 1,
-        line: 0,
-        place: 0,
-    }
-}
-
 // What the text comes to after what was kept.
-fn read_after(heap: Global, base: &Option<Composed>, text: &[u8]) -> Result<Composition, Halt>
-    ensures { ReadsText (reading_after (base_of (option_map tabled base.now)) text.now) result }
+fn read_after(heap: Global, base: Option<&Composed>, text: &[u8]) -> Result<Composition, Halt>
+    ensures { ReadsText (reading_after (base_of (option_map (λ c. tabled c.now) base.entry)) text.now) result }
 {
+    // A first module is read after tables that are made for it.
     match base {
         Some(composed) => read(
             heap,
@@ -60,46 +39,61 @@ fn read_after(heap: Global, base: &Option<Composed>, text: &[u8]) -> Result<Comp
     }
 }
 
-// The checks at the text's end.
-fn finish(kept: usize, text: &[u8], composition: Composition) -> Result<Composed, Failure>
-    requires { kept ≤ 8 }
-    ensures { Reads kept text.now (tables (composed composition)) (outcome result) }
-{
-    match settle(composition) {
-        Ok(composed) => Ok(composed),
-        Err(reason) => Err(Failure::Faulty(locate(kept, text, reason, text.len()))),
+impl Module<'_> {
+    // The fault at a place of the text.
+    fn locate(&self, reason: Reason, place: usize) -> Failure
+        ensures { result ≡ Faulty (located self.now.kept self.now.text.now reason place) }
+    {
+        Failure::Faulty(Fault {
+            reason,
+            module: self.kept + 1,
+            line: line_of(self.text, place),
+            place,
+        })
     }
-}
 
-// Reads the text and checks what it comes to.
-fn take_in(
-    heap: Global,
-    kept: usize,
-    base: &Option<Composed>,
-    text: &[u8],
-) -> Result<Composed, Failure>
-    requires { kept ≤ 8 }
-    ensures { Reads kept text.now (reading_after (base_of (option_map tabled base.now)) text.now) (outcome result) }
-{
-    match read_after(heap, base, text) {
-        Ok(composition) => finish(kept, text, composition),
-        Err(Halt::Memory) => Err(Failure::Memory),
-        Err(Halt::At(reason, place)) => Err(Failure::Faulty(locate(kept, text, reason, place))),
+    // The fault of a text that is not read.
+    fn leave_unread(&self) -> Failure
+        ensures { result ≡ Faulty (unread self.now.kept) }
+    {
+        Failure::Faulty(Fault {
+            reason: Reason::TooMuch,
+            module: self.kept + 1,
+            line: 0,
+            place: 0,
+        })
     }
-}
 
-// What the module comes to after those that were kept.
-pub(crate) fn compose(
-    heap: Global,
-    kept: usize,
-    base: &Option<Composed>,
-    text: &[u8],
-) -> Result<Composed, Failure>
-    requires { kept ≤ 8 }
-    ensures { Composes kept (base_of (option_map tabled base.now)) text.now (outcome result) }
-{
-    if kept >= 8 || text.len() > 16384 {
-        return Err(Failure::Faulty(leave_unread(kept)));
+    // The checks at the text's end.
+    fn finish(&self, composition: Composition) -> Result<Composed, Failure>
+        ensures { Reads self.now.kept self.now.text.now (tables (composed composition)) (outcome result) }
+    {
+        // A closure for `map_err` would need a clause of its own, longer than this match.
+        match settle(composition) {
+            Ok(composed) => Ok(composed),
+            Err(reason) => Err(self.locate(reason, self.text.len())),
+        }
     }
-    take_in(heap, kept, base, text)
+
+    // Reads the text and checks what it comes to.
+    fn take_in(&self, heap: Global, base: Option<&Composed>) -> Result<Composed, Failure>
+        ensures { Reads self.now.kept self.now.text.now (reading_after (base_of (option_map (λ c. tabled c.now) base.entry)) self.now.text.now) (outcome result) }
+    {
+        // Want of memory, a fault on the way and a whole text end differently.
+        match read_after(heap, base, self.text) {
+            Ok(composition) => self.finish(composition),
+            Err(Halt::Memory) => Err(Failure::Memory),
+            Err(Halt::At(reason, place)) => Err(self.locate(reason, place)),
+        }
+    }
+
+    // What the module comes to after those that were kept.
+    pub(crate) fn compose(&self, heap: Global, base: Option<&Composed>) -> Result<Composed, Failure>
+        ensures { Composes self.now.kept (base_of (option_map (λ c. tabled c.now) base.entry)) self.now.text.now (outcome result) }
+    {
+        if self.kept >= 8 || self.text.len() > 16384 {
+            return Err(self.leave_unread());
+        }
+        self.take_in(heap, base)
+    }
 }

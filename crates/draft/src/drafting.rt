@@ -1,16 +1,14 @@
 //! Trying, keeping and withdrawing modules, and sealing.
 ghost use Rattle.std.specs.Prelude.{◌≡◌, false, Some, IfOk};
-ghost use Rattle.std.specs.Option.{option_map};
 ghost use Rattle.flow.specs.Charts.{Charts};
 ghost use Rattle.policy.specs.Abstract.{asked};
 ghost use Rattle.policy.specs.Holds.{model_of};
-ghost use Rattle.draft.specs.Composing.{tabled};
-ghost use Rattle.draft.specs.Drafts.{view, blank as unopened, base, Opens, Tries, kept as kept_of, withdrawn};
+ghost use Rattle.draft.specs.Drafts.{view, phase_of, blank as unopened, base, Opens, Tries, kept as kept_of, withdrawn};
 ghost use Rattle.draft.specs.Endings.{Settled};
 
-use crate::composing::compose;
-use crate::draft::Draft;
+use crate::draft::{Draft, State};
 use crate::fault::Failure;
+use crate::module::Module;
 use crate::phase::Phase;
 use crate::sealed_policy::SealedPolicy;
 use crate::settled::Composed;
@@ -18,6 +16,7 @@ use crate::tokens::{Blank, Rest, Trial};
 use flow::chart::Chart;
 use policy::sealed::Sealed;
 use std::alloc::Global;
+use std::mem;
 
 impl Draft {
     // A draft with no module.
@@ -25,10 +24,8 @@ impl Draft {
         ensures { view result.0 ≡ unopened }
     {
         let draft = Draft {
-            phase: Phase::Blank,
             modules: 0,
-            kept: None,
-            tried: None,
+            state: State::Blank,
         };
         (draft, Blank(()))
     }
@@ -40,17 +37,17 @@ impl Draft {
         blank: Blank,
         text: &[u8],
     ) -> Result<Rest, (Blank, Failure)>
-        requires { self.old.phase ≡ Phase.Blank }
+        requires { phase_of self.old ≡ Phase.Blank }
         ensures { Opens text.now (view self.old) result (view self.new) }
     {
-        match compose(heap, 0, &self.kept, text) {
+        match (Module { kept: 0, text }).compose(heap, None) {
             Ok(composed) => {
-                self.kept = Some(composed);
+                self.state = State::Rest(composed);
                 self.modules = 1;
-                self.phase = Phase::Rest;
                 let Blank(_) = blank;
                 Ok(Rest(()))
             }
+            // The token goes back with the failure, so no closure may take it.
             Err(failure) => Err((blank, failure)),
         }
     }
@@ -62,66 +59,73 @@ impl Draft {
         rest: Rest,
         text: &[u8],
     ) -> Result<Trial, (Rest, Failure)>
-        requires { self.old.phase ≡ Phase.Rest }
+        requires { phase_of self.old ≡ Phase.Rest }
         ensures tries { Tries text.now (view self.old) result (view self.new) }
         ensures unspent { IfOk result (λ trial. trial.spent ≡ false) }
     {
-        match compose(heap, self.modules, &self.kept, text) {
-            Ok(composed) => {
-                self.tried = Some(composed);
-                self.phase = Phase::Trial;
+        let State::Rest(kept) = mem::replace(&mut self.state, State::Blank) else {
+            unreachable!()
+        };
+        let module = Module {
+            kept: self.modules,
+            text,
+        };
+        match module.compose(heap, Some(&kept)) {
+            Ok(tried) => {
+                self.state = State::Trial(kept, tried);
                 let Rest(_) = rest;
                 Ok(Trial { spent: false })
             }
-            Err(failure) => Err((rest, failure)),
+            // The token goes back with the failure, so no closure may take it.
+            Err(failure) => {
+                self.state = State::Rest(kept);
+                Err((rest, failure))
+            }
         }
     }
 
     // Keeps the module on trial.
     pub fn keep(&mut self, trial: Trial) -> Rest
-        requires { self.old.phase ≡ Phase.Trial }
+        requires { phase_of self.old ≡ Phase.Trial }
         ensures { view self.new ≡ kept_of (view self.old) }
     {
         trial.spend();
-        self.kept = self.tried.take();
+        let State::Trial(_, tried) = mem::replace(&mut self.state, State::Blank) else {
+            unreachable!()
+        };
+        self.state = State::Rest(tried);
         self.modules += 1;
-        self.phase = Phase::Rest;
         Rest(())
     }
 
     // Withdraws the module on trial: all is as before the trial.
     pub fn withdraw(&mut self, trial: Trial) -> Rest
-        requires { self.old.phase ≡ Phase.Trial }
+        requires { phase_of self.old ≡ Phase.Trial }
         ensures { view self.new ≡ withdrawn (view self.old) }
     {
         trial.spend();
-        self.tried = None;
-        self.phase = Phase::Rest;
+        let State::Trial(kept, _) = mem::replace(&mut self.state, State::Blank) else {
+            unreachable!()
+        };
+        self.state = State::Rest(kept);
         Rest(())
     }
 
     // Ends the draft: what was kept is the policy.
     pub fn seal(self, rest: Rest) -> SealedPolicy
-        requires { self.phase ≡ Phase.Rest }
-        ensures tables { model_of result.decisions.policy ≡ (base (option_map tabled self.kept)).tables }
+        requires { phase_of self ≡ Phase.Rest }
+        ensures tables { model_of result.decisions.policy ≡ (base (view self).kept).tables }
     {
         let Rest(_) = rest;
-        let Draft {
-            phase: _,
-            modules: _,
-            kept,
-            tried: _,
-        } = self;
-        match kept {
-            Some(composed) => {
-                let Composed {
-                    policy,
-                    specified: _,
-                } = composed;
-                policy
-            }
-            None => unreachable(),
-        }
+        let Draft { modules: _, state } = self;
+        let State::Rest(kept) = state else {
+            unreachable!()
+        };
+        let Composed {
+            policy,
+            specified: _,
+        } = kept;
+        policy
     }
 }
 

@@ -6,6 +6,7 @@ pub mod composing;
 pub mod draft;
 pub mod drafting;
 pub mod fault;
+pub mod module;
 pub mod phase;
 pub mod sealed_policy;
 pub mod settled;

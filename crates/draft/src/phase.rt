@@ -1,4 +1,4 @@
-//! The phases of a draft.
+//! The phases of a draft, as contracts name them.
 
 #[derive(Clone, Copy)]
 pub enum Phase {

@@ -16,10 +16,9 @@ use reader::reason::Reason;
 pub(crate) fn settle(composition: Composition) -> Result<Composed, Reason>
     ensures { Settles (composed composition) result }
 {
+    // 10, 9 and 11 are looked for in this order, and each ends the reading with what it is about.
     let (tables, specified) = composition.into_parts();
-    let Ok(policy) = Policy::of(tables) else {
-        return Err(Reason::Incomplete);
-    };
+    let policy = Policy::of(tables).map_err(|_| Reason::Incomplete)?;
     if let Some(pair) = clash(policy.tables()) {
         return Err(Reason::Clash(pair));
     }

@@ -1,6 +1,8 @@
 //! Tokens beside a draft: each stands for the phase that the draft is in, and cannot be made elsewhere.
 ghost use Rattle.std.specs.Prelude.{◌≡◌, IsTrue};
 
+// Each phase has a token of its own type, so that none is taken for another's.
+
 // The draft has no module yet.
 pub struct Blank(pub(crate) ());
 

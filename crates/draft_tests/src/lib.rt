@@ -1,7 +1,8 @@
 //! Examples of drafts, and of the faults of module texts.
 #![tactic(auto)]
 
-ghost use Rattle.std.specs.Prelude.{◌≡◌};
+ghost use Rattle.std.specs.Prelude.{◌≡◌, IfOk};
+ghost use Rattle.draft.specs.Drafts.{phase_of};
 
 #[cfg(test)]
 mod tests {
@@ -55,10 +56,25 @@ object /label
         }
     }
 
+    // The grader as a first module.
+    fn opened(heap: Global) -> Result<(Draft, Rest), Fail>
+        ensures { IfOk result (λ o. phase_of o.0 ≡ Phase.Rest) }
+    {
+        let (mut draft, blank) = Draft::new();
+        match draft.open(heap, blank, GRADER.as_bytes()) {
+            Ok(rest) => Ok((draft, rest)),
+            // The token that comes back is given up before the failure goes on.
+            Err((blank, _)) => {
+                blank.give_up();
+                Err(Fail::new("the grader is refused"))
+            }
+        }
+    }
+
     // Keeps one more module, which says nothing, where the draft takes it.
     fn keep_more(draft: &mut Draft, heap: Global, rest: Rest) -> Rest
-        requires { draft.old.phase ≡ Phase.Rest }
-        ensures { draft.new.phase ≡ Phase.Rest }
+        requires { phase_of draft.old ≡ Phase.Rest }
+        ensures { phase_of draft.new ≡ Phase.Rest }
     {
         match draft.try_module(heap, rest, b"# nothing") {
             Ok(trial) => draft.keep(trial),
@@ -68,22 +84,11 @@ object /label
 
     // The fault of the text as a further module of the grader, after seven that say nothing or after none.
     fn further_fault(heap: Global, late: bool, text: &[u8]) -> Result<Fault, Fail> {
-        let (mut draft, blank) = Draft::new();
-        let mut rest = match draft.open(heap, blank, GRADER.as_bytes()) {
-            Ok(rest) => rest,
-            Err((blank, _)) => {
-                blank.give_up();
-                return Err(Fail::new("the grader is refused"));
-            }
-        };
+        let (mut draft, mut rest) = opened(heap)?;
         if late {
-            rest = keep_more(&mut draft, heap, rest);
-            rest = keep_more(&mut draft, heap, rest);
-            rest = keep_more(&mut draft, heap, rest);
-            rest = keep_more(&mut draft, heap, rest);
-            rest = keep_more(&mut draft, heap, rest);
-            rest = keep_more(&mut draft, heap, rest);
-            rest = keep_more(&mut draft, heap, rest);
+            for _ in 0..7 {
+                rest = keep_more(&mut draft, heap, rest);
+            }
         }
         match draft.try_module(heap, rest, text) {
             Ok(trial) => {
@@ -99,14 +104,7 @@ object /label
 
     // How many objects the grader has after a further module, which is kept or withdrawn.
     fn objects_after(heap: Global, text: &[u8], keeps: bool) -> Result<usize, Fail> {
-        let (mut draft, blank) = Draft::new();
-        let rest = match draft.open(heap, blank, GRADER.as_bytes()) {
-            Ok(rest) => rest,
-            Err((blank, _)) => {
-                blank.give_up();
-                return Err(Fail::new("the grader is refused"));
-            }
-        };
+        let (mut draft, rest) = opened(heap)?;
         let rest = match draft.try_module(heap, rest, text) {
             Ok(trial) => {
                 if keeps {
@@ -123,22 +121,14 @@ object /label
 
     #[test]
     fn a_grant_and_a_denial(rt: HostRuntime) -> Result<(), Fail> {
-        let (mut draft, blank) = Draft::new();
-        match draft.open(rt.alloc(), blank, GRADER.as_bytes()) {
-            Ok(rest) => {
-                let policy = draft.seal(rest);
-                assert_eq!(rt; policy.decisions().decide(Dom(0), Obj(0), 'x'), Ok(()));
-                assert_eq!(rt;
-                    policy.decisions().decide(Dom(1), Obj(0), 'x'),
-                    Err(Refusal::Denied((4, 'd')))
-                );
-                Ok(())
-            }
-            Err((blank, _)) => {
-                blank.give_up();
-                Err(Fail::new("the grader is refused"))
-            }
-        }
+        let (draft, rest) = opened(rt.alloc())?;
+        let policy = draft.seal(rest);
+        assert_eq!(rt; policy.decisions().decide(Dom(0), Obj(0), 'x'), Ok(()));
+        assert_eq!(rt;
+            policy.decisions().decide(Dom(1), Obj(0), 'x'),
+            Err(Refusal::Denied((4, 'd')))
+        );
+        Ok(())
     }
 
     #[test]
@@ -208,11 +198,7 @@ object /label
         let broken = further_fault(rt.alloc(), false, b"apart t_log t_lim\napart t_lim t_log")?;
         assert_eq!(rt; broken.module, 2);
         assert_eq!(rt; broken.line, 2);
-        let Reason::Chain((from, to)) = broken.reason else {
-            return Err(Fail::new("no chain was found"));
-        };
-        assert_eq!(rt; from, Typ(2));
-        assert_eq!(rt; to, Typ(3));
+        assert_eq!(rt; broken.reason, Reason::Chain((Typ(2), Typ(3))));
         let ninth = further_fault(rt.alloc(), true, b"")?;
         assert_eq!(rt; ninth.reason.number(), 12);
         assert_eq!(rt; ninth.module, 9);

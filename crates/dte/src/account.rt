@@ -1,38 +1,43 @@
 // What a policy decides, written out for people.
-use crate::names::flag_text;
-use label::name::Name;
-use label::numbers::{Dom, Obj, Typ};
+use crate::names::{Named, manner};
+use crate::report::Question;
+use label::numbers::{Dom, Obj};
 use label::path::Path;
 use label::refusal::Refusal;
 use label::rights::{LETTERS, Rights};
 use policy::complete::Policy;
 use policy::sealed::Sealed;
 use std::io;
+use tables::holding::Passage;
+use words::spelled::Spelled;
 
 // Paths that are no objects, to show how rules reach.
 const PATHS: [&str; 5] = ["/", "/bin", "/log", "/limits", "/log/day/noon"];
 
-// A domain asks for a letter on an object.
-const ASKED: [(u8, u8, char); 3] = [(2, 2, 'r'), (1, 0, 'x'), (1, 3, 'w')];
-
-// The name of the type with this number; a dash for what has none.
-fn write_name(rt: &HostRuntime, names: &[Name], number: u8) -> io::Result<()> {
-    match names.get(number as usize) {
-        Some(name) => print!(rt; "{name:<7} "),
-        None => print!(rt; "{:<7} ", "-"),
-    }
-}
+const ASKED: [Question; 3] = [
+    Question {
+        dom: Dom(2),
+        letter: 'r',
+        obj: Obj(2),
+    },
+    Question {
+        dom: Dom(1),
+        letter: 'x',
+        obj: Obj(0),
+    },
+    Question {
+        dom: Dom(1),
+        letter: 'w',
+        obj: Obj(3),
+    },
+];
 
 pub(crate) fn write_type(rt: &HostRuntime, policy: &Policy, path: &Path) -> io::Result<()> {
-    let Typ(number) = policy.type_of(path);
-    print!(rt; "  {path:<14} ")?;
-    write_name(rt, policy.tables().types(), number)?;
-    match policy.tables().rules().deciding(path.as_bytes()) {
-        Some(rule) => {
-            let flag = flag_text(rule.flag);
-            let on = rule.path;
-            println!(rt; "by {flag} {on}")
-        }
+    let tables = policy.tables();
+    let name = Named(tables.types(), policy.type_of(path).0);
+    print!(rt; "  {path:<14} {name:<7} ")?;
+    match tables.rules().deciding(path.as_bytes()) {
+        Some(rule) => println!(rt; "by {} {}", rule.flag.text(), rule.path),
         None => println!(rt),
     }
 }
@@ -54,15 +59,11 @@ fn write_types(rt: &HostRuntime, policy: &Policy) -> io::Result<()> {
 
 // The letters that the domain is granted on the object.
 fn granted(sealed: &Sealed, dom: Dom, obj: Obj) -> Rights {
-    let mut rights = Rights::none();
-    for letter in LETTERS {
-        if sealed.decide(dom, obj, letter).is_ok() {
-            if let Some(one) = Rights::of(letter) {
-                rights = rights.union(one);
-            }
-        }
-    }
-    rights
+    LETTERS
+        .iter()
+        .filter(|&&letter| sealed.decide(dom, obj, letter).is_ok())
+        .filter_map(|&letter| Rights::of(letter))
+        .fold(Rights::none(), Rights::union)
 }
 
 fn write_grants(rt: &HostRuntime, sealed: &Sealed) -> io::Result<()> {
@@ -73,8 +74,7 @@ fn write_grants(rt: &HostRuntime, sealed: &Sealed) -> io::Result<()> {
         print!(rt; "{name:>9}")?;
     }
     println!(rt)?;
-    let mut o = 0u8;
-    for path in tables.objects() {
+    for (o, path) in (0..tables.object_count()).zip(tables.objects()) {
         print!(rt; "  {path:<14}")?;
         for d in 0..tables.domain_count() {
             let rights = granted(sealed, Dom(d), Obj(o));
@@ -82,37 +82,43 @@ fn write_grants(rt: &HostRuntime, sealed: &Sealed) -> io::Result<()> {
             print!(rt; "{letters:>9}")?;
         }
         println!(rt)?;
-        o = o.saturating_add(1);
     }
     println!(rt)
 }
 
-fn write_passage(rt: &HostRuntime, sealed: &Sealed, dom: Dom, obj: Obj, to: Dom) -> io::Result<()> {
-    let tables = sealed.policy().tables();
-    let (Some(from), Some(path), Some(into)) = (
-        tables.domains().get(dom.0 as usize),
-        tables.objects().get(obj.0 as usize),
-        tables.domains().get(to.0 as usize),
-    ) else {
-        return Ok(());
-    };
-    let how = match sealed.auto(dom, obj) {
-        Some(target) if target.0 == to.0 => "always",
-        _ => "if it wishes so",
-    };
-    println!(rt; "  {from} running {path} passes to {into}, {how}")
+// The passages that a run of the object by the domain may take.
+fn write_passages_of(
+    rt: &HostRuntime,
+    sealed: &Sealed,
+    dom: Dom,
+    obj: Obj,
+    path: &Path,
+) -> io::Result<()> {
+    let domains = sealed.policy().tables().domains();
+    let from = Named(domains, dom.0);
+    for e in 0..sealed.policy().tables().domain_count() {
+        if sealed.passes(dom, obj, Dom(e)) {
+            let how = if sealed.auto(dom, obj) == Some(Dom(e)) {
+                Passage::Auto
+            } else {
+                Passage::Exec
+            };
+            println!(rt;
+                "  {from} running {path} passes to {}, {}",
+                Named(domains, e),
+                manner(how)
+            )?;
+        }
+    }
+    Ok(())
 }
 
 fn write_passages(rt: &HostRuntime, sealed: &Sealed) -> io::Result<()> {
     let tables = sealed.policy().tables();
     println!(rt; "Passages")?;
     for d in 0..tables.domain_count() {
-        for o in 0..tables.object_count() {
-            for e in 0..tables.domain_count() {
-                if sealed.passes(Dom(d), Obj(o), Dom(e)) {
-                    write_passage(rt, sealed, Dom(d), Obj(o), Dom(e))?;
-                }
-            }
+        for (o, path) in (0..tables.object_count()).zip(tables.objects()) {
+            write_passages_of(rt, sealed, Dom(d), Obj(o), path)?;
         }
     }
     println!(rt)
@@ -121,20 +127,11 @@ fn write_passages(rt: &HostRuntime, sealed: &Sealed) -> io::Result<()> {
 // The path, and under it a caret at the end of the part that failed.
 fn write_denial(rt: &HostRuntime, path: &Path, n: usize, letter: char) -> io::Result<()> {
     println!(rt; "      {path}")?;
-    print!(rt; "      ")?;
-    for _ in 1..n {
-        print!(rt; " ")?;
-    }
-    println!(rt; "^ {letter} is lacking here")
+    println!(rt; "      {:>n$} {letter} is lacking here", "^")
 }
 
-pub(crate) fn write_answer(
-    rt: &HostRuntime,
-    sealed: &Sealed,
-    dom: Dom,
-    obj: Obj,
-    letter: char,
-) -> io::Result<()> {
+pub(crate) fn write_answer(rt: &HostRuntime, sealed: &Sealed, asked: Question) -> io::Result<()> {
+    let Question { dom, letter, obj } = asked;
     let tables = sealed.policy().tables();
     let (Some(name), Some(path)) = (
         tables.domains().get(dom.0 as usize),
@@ -158,8 +155,8 @@ pub(crate) fn write(rt: &HostRuntime, sealed: &Sealed) -> io::Result<()> {
     write_grants(rt, sealed)?;
     write_passages(rt, sealed)?;
     println!(rt; "Some questions")?;
-    for (d, o, letter) in ASKED {
-        write_answer(rt, sealed, Dom(d), Obj(o), letter)?;
+    for asked in ASKED {
+        write_answer(rt, sealed, asked)?;
     }
     Ok(())
 }

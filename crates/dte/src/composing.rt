@@ -1,6 +1,8 @@
 // Module texts composed to a policy: the first opens a draft, each further one is tried and kept.
 ghost use Rattle.std.specs.Prelude.{◌≡◌};
+ghost use Rattle.draft.specs.Drafts.{phase_of};
 
+use crate::files::Module;
 use draft::draft::Draft;
 use draft::fault::Failure;
 use draft::phase::Phase;
@@ -9,26 +11,25 @@ use draft::tokens::Rest;
 use std::alloc::Global;
 
 fn keep(draft: &mut Draft, heap: Global, rest: Rest, text: &[u8]) -> Result<Rest, (Rest, Failure)>
-    requires { draft.old.phase ≡ Phase.Rest }
-    ensures { draft.new.phase ≡ Phase.Rest }
+    requires { phase_of draft.old ≡ Phase.Rest }
+    ensures { phase_of draft.new ≡ Phase.Rest }
 {
-    match draft.try_module(heap, rest, text) {
-        Ok(trial) => Ok(draft.keep(trial)),
-        Err(refused) => Err(refused),
-    }
+    let trial = draft.try_module(heap, rest, text)?;
+    Ok(draft.keep(trial))
 }
 
 fn keep_all(
     heap: Global,
     mut draft: Draft,
     mut rest: Rest,
-    texts: &[Vec<u8>],
+    further: &[Module],
 ) -> Result<SealedPolicy, Failure>
-    requires { draft.phase ≡ Phase.Rest }
+    requires { phase_of draft ≡ Phase.Rest }
 {
-    for text in texts {
-        match keep(&mut draft, heap, rest, text.as_slice()) {
+    for module in further {
+        match keep(&mut draft, heap, rest, module.text.as_slice()) {
             Ok(next) => rest = next,
+            // The token that comes back is given up before the failure goes on.
             Err((back, failure)) => {
                 back.give_up();
                 return Err(failure);
@@ -41,11 +42,12 @@ fn keep_all(
 pub(crate) fn compose(
     heap: Global,
     first: &[u8],
-    further: &[Vec<u8>],
+    further: &[Module],
 ) -> Result<SealedPolicy, Failure> {
     let (mut draft, blank) = Draft::new();
     match draft.open(heap, blank, first) {
         Ok(rest) => keep_all(heap, draft, rest, further),
+        // The token that comes back is given up before the failure goes on.
         Err((blank, failure)) => {
             blank.give_up();
             Err(failure)

@@ -1,27 +1,19 @@
-// The line of a module text that a place is on.
+// A place in a module text, and what stands there.
 use std::alloc::{AllocError, Global};
 
-fn begin_of_line(text: &[u8], place: usize) -> usize {
-    let mut begin = 0usize;
-    for (i, byte) in text.iter().enumerate().take(place) {
-        if *byte == b'\n' {
-            begin = i.saturating_add(1);
-        }
-    }
-    begin
+#[derive(Clone, Copy)]
+pub(crate) struct Spot<'a> {
+    pub(crate) text: &'a [u8],
+    pub(crate) place: usize,
 }
 
-// Where the statement begins: a backslash before a line feed carries it on.
-fn begin_of_statement(text: &[u8], place: usize) -> usize {
-    let mut begin = 0usize;
-    let mut before = b'\n';
-    for (i, byte) in text.iter().enumerate().take(place) {
-        if *byte == b'\n' && before != b'\\' {
-            begin = i.saturating_add(1);
-        }
-        before = *byte;
+// Whether a statement ends with the last of these bytes: a backslash before a line feed carries it on.
+fn ends_statement(text: &[u8]) -> bool {
+    match text {
+        [.., b'\\', b'\n'] => false,
+        [.., b'\n'] => true,
+        _ => false,
     }
-    begin
 }
 
 // A byte as it is shown, in one column.
@@ -33,34 +25,47 @@ fn shown(byte: u8) -> char {
     }
 }
 
-// The line that the place is on.
-pub(crate) fn line_at(heap: Global, text: &[u8], place: usize) -> Result<String, AllocError> {
-    let mut line = String::new(heap);
-    for byte in text.iter().skip(begin_of_line(text, place)) {
-        if *byte == b'\n' {
-            return Ok(line);
-        }
-        line.push(shown(*byte))?;
+impl Spot<'_> {
+    fn begin_of_line(self) -> usize {
+        self.text
+            .iter()
+            .take(self.place)
+            .rposition(|&byte| byte == b'\n')
+            .map_or(0, |i| i.saturating_add(1))
     }
-    Ok(line)
-}
 
-// The column of the place on its line, from 1.
-pub(crate) fn column_of(text: &[u8], place: usize) -> usize {
-    place
-        .saturating_sub(begin_of_line(text, place))
-        .saturating_add(1)
-}
-
-// The first word of the statement that the place is in.
-pub(crate) fn first_word(heap: Global, text: &[u8], place: usize) -> Result<String, AllocError> {
-    let mut word = String::new(heap);
-    for byte in text.iter().skip(begin_of_statement(text, place)) {
-        match *byte {
-            b' ' | b'\t' if word.is_empty() => {}
-            b'a'..=b'z' | b'_' => word.push(*byte as char)?,
-            _ => return Ok(word),
-        }
+    fn begin_of_statement(self) -> usize {
+        (1..=self.place)
+            .rev()
+            .find(|&n| self.text.get(..n).is_some_and(ends_statement))
+            .unwrap_or(0)
     }
-    Ok(word)
+
+    // The line that the place is on.
+    pub(crate) fn line(self, heap: Global) -> Result<String, AllocError> {
+        self.text
+            .iter()
+            .skip(self.begin_of_line())
+            .take_while(|&&byte| byte != b'\n')
+            .map(|&byte| shown(byte))
+            .collect(heap)
+    }
+
+    // The column of the place on its line, from 1.
+    pub(crate) fn column(self) -> usize {
+        self.place
+            .saturating_sub(self.begin_of_line())
+            .saturating_add(1)
+    }
+
+    // The first word of the statement that the place is in.
+    pub(crate) fn first_word(self, heap: Global) -> Result<Vec<u8>, AllocError> {
+        self.text
+            .iter()
+            .copied()
+            .skip(self.begin_of_statement())
+            .skip_while(|byte| matches!(*byte, b' ' | b'\t'))
+            .take_while(|byte| matches!(*byte, b'a'..=b'z' | b'_'))
+            .collect(heap)
+    }
 }

@@ -16,24 +16,26 @@ mod example;
 mod excerpt;
 mod faults;
 mod files;
-mod listing;
 mod names;
+mod people;
 mod plain;
+mod report;
+mod rows;
 mod stores;
 
-use crate::commands::Style;
 use crate::composing::compose;
+use crate::people::People;
+use crate::plain::Plain;
 
 fn write_example(rt: &HostRuntime) -> anyhow::Result<()> {
-    let further = Vec::new(rt.alloc());
-    match compose(rt.alloc(), example::MODULE.as_bytes(), further.as_slice()) {
-        Ok(policy) => {
-            account::write(rt, policy.decisions())?;
-            Ok(())
-        }
-        Err(Failure::Memory) => Err(Refusal::Memory.into()),
-        Err(Failure::Faulty(_)) => Err(anyhow!("the example policy is refused")),
-    }
+    let policy = compose(rt.alloc(), example::MODULE.as_bytes(), &[]).map_err(
+        |failure| match failure {
+            Failure::Memory => Refusal::Memory.into(),
+            Failure::Faulty(_) => anyhow!("the example policy is refused"),
+        },
+    )?;
+    account::write(rt, policy.decisions())?;
+    Ok(())
 }
 
 fn run(rt: &HostRuntime) -> anyhow::Result<()> {
@@ -41,16 +43,13 @@ fn run(rt: &HostRuntime) -> anyhow::Result<()> {
     match words.as_slice() {
         [] => write_example(rt),
         [command, rest @ ..] if command.as_str() == "store" => stores::run(rt, rest),
-        [option, rest @ ..] if option.as_str() == "--plain" => commands::run(
-            rt,
-            Style::Plain,
-            rest,
-        ),
-        words => commands::run(rt, Style::People, words),
+        [option, rest @ ..] if option.as_str() == "--plain" => commands::run::<Plain>(rt, rest),
+        words => commands::run::<People>(rt, words),
     }
 }
 
 fn main(rt: HostRuntime) -> anyhow::Result<ExitCode> {
+    // An error is one line behind the name of the program.
     match run(&rt) {
         Ok(()) => Ok(ExitCode::SUCCESS),
         Err(error) => {

@@ -1,5 +1,7 @@
-// Answers in lines of a fixed form, by number.
-use crate::names::flag_text;
+// Answers in lines of a fixed form, by number, for scripts.
+use crate::files::Module;
+use crate::report::{Question, Report};
+use crate::rows::Rows;
 use draft::fault::{Failure, Fault};
 use label::name::Name;
 use label::numbers::{Dom, Typ};
@@ -7,140 +9,125 @@ use label::path::Path;
 use label::refusal::Refusal;
 use label::rights::Rights;
 use policy::complete::Policy;
+use policy::sealed::Sealed;
 use reader::reason::Reason;
+use rules::rule::Rule;
 use std::io;
+use tables::entry::Entry;
 use tables::holding::Passage;
-use tables::table::Tables;
+use tables::table::{Apart, Tables};
+use words::spelled::Spelled;
 
-fn write_names(rt: &HostRuntime, sort: &str, names: &[Name]) -> io::Result<()> {
-    for (n, name) in names.iter().enumerate() {
-        println!(rt; "{sort} {n} {name}")?;
+pub(crate) struct Plain;
+
+impl Rows for Plain {
+    fn type_name(rt: &HostRuntime, number: usize, name: &Name) -> io::Result<()> {
+        println!(rt; "type {number} {name}")
     }
-    Ok(())
-}
 
-fn write_default(rt: &HostRuntime, tables: &Tables) -> io::Result<()> {
-    if let Some(Dom(d)) = tables.first() {
-        println!(rt; "default {d}")?;
+    fn domain_name(rt: &HostRuntime, number: usize, name: &Name) -> io::Result<()> {
+        println!(rt; "domain {number} {name}")
     }
-    Ok(())
-}
 
-fn write_rules(rt: &HostRuntime, tables: &Tables) -> io::Result<()> {
-    for rule in tables.rules().as_slice() {
-        let flag = flag_text(rule.flag);
-        let path = rule.path;
-        let Typ(t) = rule.typ;
-        println!(rt; "rule {flag} {path} {t}")?;
+    fn first(rt: &HostRuntime, dom: Dom) -> io::Result<()> {
+        println!(rt; "default {}", dom.0)
     }
-    Ok(())
-}
 
-fn write_entries(rt: &HostRuntime, tables: &Tables, d: u8) -> io::Result<()> {
-    for entry in tables.entries().as_slice() {
-        if entry.dom.0 == d {
-            let path = entry.path;
-            println!(rt; "entry {d} {path}")?;
-        }
+    fn rule(rt: &HostRuntime, _tables: &Tables, rule: &Rule) -> io::Result<()> {
+        println!(rt; "rule {} {} {}", rule.flag.text(), rule.path, rule.typ.0)
     }
-    Ok(())
-}
 
-fn write_rights(rt: &HostRuntime, tables: &Tables, d: u8) -> io::Result<()> {
-    for t in 0..64u8 {
-        let rights = tables.rights(Dom(d), Typ(t));
-        if rights != Rights::none() {
-            println!(rt; "right {d} {t} {rights}")?;
-        }
+    fn entry(rt: &HostRuntime, entry: &Entry) -> io::Result<()> {
+        println!(rt; "entry {} {}", entry.dom.0, entry.path)
     }
-    Ok(())
-}
 
-fn write_passages(
-    rt: &HostRuntime,
-    tables: &Tables,
-    d: u8,
-    how: Passage,
-    word: &str,
-) -> io::Result<()> {
-    for e in 0..tables.domain_count() {
-        if tables.lists(Dom(d), how, Dom(e)) {
-            println!(rt; "{word} {d} {e}")?;
-        }
+    fn right(
+        rt: &HostRuntime,
+        _tables: &Tables,
+        dom: Dom,
+        typ: Typ,
+        rights: Rights,
+    ) -> io::Result<()> {
+        println!(rt; "right {} {} {rights}", dom.0, typ.0)
     }
-    Ok(())
-}
 
-fn write_domains(rt: &HostRuntime, tables: &Tables) -> io::Result<()> {
-    for d in 0..tables.domain_count() {
-        write_entries(rt, tables, d)?;
-        write_rights(rt, tables, d)?;
-        write_passages(rt, tables, d, Passage::Auto, "auto")?;
-        write_passages(rt, tables, d, Passage::Exec, "exec")?;
+    fn passage(
+        rt: &HostRuntime,
+        _tables: &Tables,
+        dom: Dom,
+        how: Passage,
+        to: Dom,
+    ) -> io::Result<()> {
+        println!(rt; "{} {} {}", how.text(), dom.0, to.0)
     }
-    Ok(())
-}
 
-fn write_objects(rt: &HostRuntime, policy: &Policy) -> io::Result<()> {
-    for (n, path) in policy.tables().objects().iter().enumerate() {
-        let Typ(t) = policy.type_of(path);
-        println!(rt; "object {n} {path} {t}")?;
+    fn object(
+        rt: &HostRuntime,
+        _tables: &Tables,
+        number: usize,
+        path: &Path,
+        typ: Typ,
+    ) -> io::Result<()> {
+        println!(rt; "object {number} {path} {}", typ.0)
     }
-    Ok(())
-}
 
-fn write_aparts(rt: &HostRuntime, tables: &Tables) -> io::Result<()> {
-    for apart in tables.aparts() {
-        let Typ(from) = apart.from;
-        let Typ(to) = apart.to;
-        println!(rt; "apart {from} {to}")?;
+    fn apart(rt: &HostRuntime, _tables: &Tables, apart: &Apart) -> io::Result<()> {
+        println!(rt; "apart {} {}", apart.from.0, apart.to.0)
     }
-    Ok(())
-}
-
-pub(crate) fn write_tables(rt: &HostRuntime, policy: &Policy) -> io::Result<()> {
-    let tables = policy.tables();
-    write_names(rt, "type", tables.types())?;
-    write_names(rt, "domain", tables.domains())?;
-    write_default(rt, tables)?;
-    write_rules(rt, tables)?;
-    write_domains(rt, tables)?;
-    write_objects(rt, policy)?;
-    write_aparts(rt, tables)
-}
-
-pub(crate) fn write_type(rt: &HostRuntime, policy: &Policy, path: &Path) -> io::Result<()> {
-    let Typ(t) = policy.type_of(path);
-    println!(rt; "path {path} {t}")
 }
 
 fn write_fault(rt: &HostRuntime, fault: Fault) -> io::Result<()> {
-    let number = fault.reason.number();
-    let layer = fault.reason.layer();
-    let module = fault.module;
-    let line = fault.line;
-    let place = fault.place;
-    print!(rt; "fault {number} layer {layer} module {module} line {line} place {place}")?;
-    match fault.reason {
+    let Fault {
+        reason,
+        module,
+        line,
+        place,
+    } = fault;
+    print!(rt;
+        "fault {} layer {} module {module} line {line} place {place}",
+        reason.number(),
+        reason.layer()
+    )?;
+    match reason {
         Reason::Clash((Dom(x), Dom(y))) => println!(rt; " domains {x} {y}"),
         Reason::Chain((Typ(x), Typ(y))) => println!(rt; " types {x} {y}"),
         _ => println!(rt),
     }
 }
 
-pub(crate) fn write_failure(rt: &HostRuntime, failure: Failure) -> io::Result<()> {
-    match failure {
-        Failure::Memory => println!(rt; "fault memory"),
-        Failure::Faulty(fault) => write_fault(rt, fault),
+fn write_refusal(rt: &HostRuntime, refusal: Refusal) -> io::Result<()> {
+    match (refusal, refusal.number()) {
+        (Refusal::Denied((length, letter)), _) => println!(rt; "denied {length} {letter}"),
+        (_, Some(number)) => println!(rt; "refused {number}"),
+        (_, None) => println!(rt; "fault memory"),
     }
 }
 
-pub(crate) fn write_refusal(rt: &HostRuntime, refusal: Refusal) -> io::Result<()> {
-    match refusal {
-        Refusal::Denied((length, letter)) => println!(rt; "denied {length} {letter}"),
-        _ => match refusal.number() {
-            Some(number) => println!(rt; "refused {number}"),
-            None => println!(rt; "fault memory"),
-        },
+impl Report for Plain {
+    fn failure(rt: &HostRuntime, _modules: &[Module], failure: Failure) -> anyhow::Result<()> {
+        match failure {
+            Failure::Memory => println!(rt; "fault memory")?,
+            Failure::Faulty(fault) => write_fault(rt, fault)?,
+        }
+        Ok(())
+    }
+
+    fn path_type(rt: &HostRuntime, policy: &Policy, path: &Path) -> io::Result<()> {
+        println!(rt; "path {path} {}", policy.type_of(path).0)
+    }
+
+    fn no_path(rt: &HostRuntime, _word: &str, refusal: Refusal) -> io::Result<()> {
+        write_refusal(rt, refusal)
+    }
+
+    fn no_question(rt: &HostRuntime, refusal: Refusal) -> io::Result<()> {
+        write_refusal(rt, refusal)
+    }
+
+    fn answer(rt: &HostRuntime, sealed: &Sealed, asked: Question) -> io::Result<()> {
+        match sealed.decide(asked.dom, asked.obj, asked.letter) {
+            Ok(()) => println!(rt; "granted"),
+            Err(refusal) => write_refusal(rt, refusal),
+        }
     }
 }

@@ -1,5 +1,5 @@
 -- What a search along the links of a chart finds are the chains of its policy.
-use Rattle.std.proofs.Common.{◌≡◌, ℕ, zero, suc, ◌+◌, ◌-◌, ◌<◌, Bool, true, false, ◌&&◌, ltb, List, [], ◌∷◌, ◌++◌, map, get_or, Some, None, Option, sym, refl, ap, ◌∙◌, subst, ⊎_elim, arith}
+use Rattle.std.proofs.Common.{◌≡◌, ℕ, zero, suc, ◌+◌, ◌<◌, Bool, true, false, ◌&&◌, ltb, List, [], ◌∷◌, ◌++◌, map, get_or, Some, None, Option, sym, refl, ap, ◌∙◌, subst, ⊎_elim, arith}
 use Rattle.std.proofs.lemmas.List.{map_push}
 use Rattle.std.proofs.lemmas.Bool.{true≢false, cases_lt, and_parts, and_from, lt-ltb, ltb-true, eq-eqb, eqb-true}
 use Rattle.machine.specs.Flow.{Node, obj, dom, number, Link, learns, passes, alters, Walk, here, on, trail, Chain, NoChain, Objects as Set}
@@ -8,30 +8,15 @@ use Rattle.reach.specs.Distances.{distance_of, parent_of}
 use Rattle.reach.specs.Trails.{trail as nodes_to}
 use Rattle.reach.specs.Walks.{Walk as Steps, here as begun, on as stepped, Found, walk_to_node, walk_of_none}
 use Rattle.flow.specs.declared.chart.Chart.{Chart}
-use Rattle.flow.specs.Charts.{Numbered, Charts}
+use Rattle.flow.specs.Charts.{Charts}
+use Rattle.flow.specs.Nodes.{Numbered}
 use Rattle.flow.specs.Rows.{linked}
 use Rattle.flow.specs.Sets.{within}
 use Rattle.flow.specs.Sources.{Sources}
 use Rattle.flow.specs.Spreads.{only, HeldAt, SpreadOf}
 use Rattle.flow.specs.declared.spread.Spread.{Spread}
-use Rattle.flow.proofs.Linking.{live_is}
-
--- the node that a number stands for
-record NodeOf (v : ℕ) : Type 0 where
-  node : Node
-  numbered : Numbered node
-  number_is : number node ≡ v
-
-node_of : (v : ℕ) → v < 160 → NodeOf v
-node_of v l =
-    ⊎_elim
-    (λ h. record { node = obj v; numbered = h; number_is = refl })
-    (λ h. record { node = dom (v - 128); numbered = omega arith; number_is = omega arith })
-    (cases_lt v 128)
-
-pub number_below : (x : Node) → Numbered x → number x < 160
-number_below (obj o) h = omega arith
-number_below (dom d) h = omega arith
+use Rattle.flow.proofs.LinkParts.{live_is}
+use Rattle.flow.proofs.Nodes.{number_below, node_of}
 
 -- a walk from an object of the set, over given nodes
 record WalkBy (P : Asked) (From : Set) (n : ℕ) (x : Node) (nodes : List ℕ) : Type 0 where

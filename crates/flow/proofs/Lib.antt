@@ -1,9 +1,10 @@
 pub mod Bounded
 pub mod Allowed
+pub mod Filling
 pub mod Marks
-pub mod PassageRows
-pub mod Linking
-pub mod RowFills
+pub mod Ranges
+pub mod Nodes
+pub mod LinkParts
 pub mod Lives
 pub mod Explored
 pub mod Nearest

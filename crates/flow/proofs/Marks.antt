@@ -1,5 +1,5 @@
 -- Lists of marks.
-use Rattle.std.proofs.Common.{◌≡◌, ℕ, ◌+◌, ◌<◌, Bool, true, false, ◌⊎◌, List, length, get_or, set, replicate, sym, ap, ◌∙◌, subst, inl, inr, ⊎_elim, arith}
+use Rattle.std.proofs.Common.{◌≡◌, ℕ, ◌+◌, ◌<◌, Bool, true, false, ◌⊎◌, List, length, get_or, set, replicate, sym, ◌∙◌, inl, inr, ⊎_elim, arith}
 use Rattle.std.proofs.lemmas.List.{get_or-replicate, get_or_past, length-replicate, get_or-set_same, get_or-set_other}
 use Rattle.std.proofs.lemmas.Bool.{true≢false, cases_lt, cases_eq}
 
@@ -12,24 +12,12 @@ marked_new xs i v h = ⊎_elim inl (λ q. inr (sym (get_or-set_other xs i v true
 pub marked_here : (xs : List Bool) (i : ℕ) → i < length xs → get_or (set xs i true) i false ≡ true
 marked_here xs i h = get_or-set_same xs i true false h
 
-pub marked_still : (xs : List Bool) (i v : ℕ) → i < length xs → get_or xs v false ≡ true → get_or (set xs i true) v false ≡ true
-marked_still xs i v l h =
-    ⊎_elim (λ q. ap (λ k. get_or (set xs i true) k false) q ∙ marked_here xs i l) (λ q. get_or-set_other xs i v true false q ∙ h) (cases_eq v i)
-
 -- one mark on a blank list
 pub one_mark : (n i v : ℕ) → get_or (set (replicate n false) i true) v false ≡ true → v ≡ i
 one_mark n i v h = ⊎_elim (λ e. e) (λ q. absurd (true≢false (sym q ∙ blank n v))) (marked_new (replicate n false) i v h)
 
 pub one_mark_here : (n i : ℕ) → i < n → get_or (set (replicate n false) i true) i false ≡ true
 one_mark_here n i h = marked_here (replicate n false) i (rw length-replicate h)
-
--- a list that is filled at the places `at 0`, `at 1` and so on
-pub filled : {X : Type 0} (Q : ℕ → X → Type 0) (at : ℕ → ℕ) → ((i j : ℕ) → at i ≡ at j → i ≡ j) → (xs : List X) (k : ℕ) (v e : X) → at k < length xs → ((j : ℕ) → j < k → Q j (get_or xs (at j) e)) → Q k v → (j : ℕ) → j < k + 1 → Q j (get_or (set xs (at k) v) (at j) e)
-filled Q at apart xs k v e l below here j lt =
-    ⊎_elim
-    (λ same. subst (λ i. Q i (get_or (set xs (at k) v) (at i) e)) (sym same) (subst (Q k) (sym (get_or-set_same xs (at k) v e l)) here))
-    (λ other. subst (Q j) (sym (get_or-set_other xs (at k) (at j) v e (λ q. other (apart j k q)))) (below j (omega (arith, other))))
-    (cases_eq j k)
 
 pub domains_apart : (i j : ℕ) → 128 + i ≡ 128 + j → i ≡ j
 domains_apart i j h = omega arith

@@ -1,11 +1,13 @@
 pub mod Sets
 pub mod Allows
+pub mod Nodes
 pub mod Rows
+pub mod Tables
 pub mod Passages
 pub mod Charts
-pub mod LinkRows
 pub mod Sources
 pub mod Spreads
 pub mod Nearest
 pub mod Searches
 pub mod SetLaws
+pub mod Grounds

@@ -2,10 +2,10 @@
 ghost use Rattle.policy.specs.Abstract.{asked};
 ghost use Rattle.flow.specs.Charts.{Charts};
 
-use crate::chart::{Chart, Links, Row};
+use crate::chart::{Chart, Links};
+use crate::linking::Linking;
 use crate::live::live_domains;
-use crate::passages::passages;
-use crate::rows::links_from;
+use crate::passages::Passing;
 use policy::sealed::Sealed;
 
 impl Chart {
@@ -13,15 +13,15 @@ impl Chart {
     pub fn of(policy: &Sealed) -> Chart
         ensures { Charts (asked policy.now.policy) result }
     {
-        let passages = passages(policy);
+        let passages = Links::of(&Passing(policy));
         let live = live_domains(policy, &passages);
-        let mut links = Links([Row([false; 160]); 160]);
-        for u in 0..160 {
-            links.0[u] = links_from(policy, &live, &passages, u);
-        }
         Chart {
             objects: policy.policy().tables().object_count() as usize,
-            links,
+            links: Links::of(&Linking {
+                policy,
+                passages,
+                live,
+            }),
         }
     }
 }

@@ -4,9 +4,11 @@
 mod asking;
 pub mod chart;
 pub mod charting;
+mod linking;
 mod live;
+mod node;
 pub mod objects;
 mod passages;
-mod rows;
+mod relation;
 pub mod searching;
 pub mod spread;

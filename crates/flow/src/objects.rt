@@ -6,8 +6,9 @@ ghost use Rattle.flow.specs.Sets.{among, joined, within};
 
 use label::numbers::{Obj, Typ};
 use policy::sealed::Sealed;
+use std::array;
 
-// A set of the objects 0 to 127.
+// A set of the objects 0 to 127. A search allocates nothing, so each object has its mark.
 #[derive(Clone, Copy)]
 pub struct Objects {
     pub(crate) members: [bool; 128],
@@ -34,18 +35,16 @@ impl Objects {
     pub fn has(&self, obj: Obj) -> bool
         ensures { result ≡ among self.now obj.0 }
     {
-        obj.0 < 128 && self.members[obj.0 as usize]
+        self.members.get(obj.0 as usize) == Some(&true)
     }
 
     // The objects of the type.
     pub fn of_type(policy: &Sealed, typ: Typ) -> Objects
         ensures { (o : ℕ) → among result o ≡ within (asked policy.now.policy) (of_type (asked policy.now.policy) typ.0) o }
     {
-        let mut members = [false; 128];
-        for o in 0..128u8 {
-            members[o as usize] = has_type(policy, Obj(o), typ);
+        Objects {
+            members: array::from_fn(|o| has_type(policy, Obj(o as u8), typ)),
         }
-        Objects { members }
     }
 }
 
@@ -53,8 +52,5 @@ impl Objects {
 fn has_type(policy: &Sealed, obj: Obj, typ: Typ) -> bool
     ensures { result ≡ within (asked policy.now.policy) (of_type (asked policy.now.policy) typ.0) obj.0 }
 {
-    match policy.type_of(obj) {
-        Ok(is) => is.0 == typ.0,
-        Err(_) => false,
-    }
+    policy.type_of(obj) == Ok(typ)
 }

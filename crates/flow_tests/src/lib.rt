@@ -9,7 +9,8 @@ mod tests {
     use flow::objects::Objects;
     use label::numbers::Obj;
     use label::refusal::Refusal;
-    use std::alloc::{AllocError, Global};
+    use std::alloc::Global;
+    use std::fmt::Write;
     use std::process::Abort;
     use std::test::Fail;
 
@@ -29,11 +30,11 @@ mod tests {
     fn fail(failure: Failure) -> Fail {
         match failure {
             Failure::Memory => Fail::new("want of memory"),
-            Failure::Faulty(fault) => {
-                let number = fault.reason.number();
-                let line = fault.line;
-                Fail::new(format_args!("the text is refused by {number} in line {line}"))
-            }
+            Failure::Faulty(fault) => Fail::new(format_args!(
+                "the text is refused by {} in line {}",
+                fault.reason.number(),
+                fault.line
+            )),
         }
     }
 
@@ -70,12 +71,7 @@ mod tests {
 
     // Whether the buffer begins with the bytes, and is as it was behind them.
     fn holds(buffer: &[u8], front: &[u8]) -> bool {
-        for (at, byte) in buffer.iter().enumerate() {
-            if *byte != front.get(at).copied().unwrap_or(STALE) {
-                return false;
-            }
-        }
-        true
+        buffer.iter().enumerate().all(|(at, byte)| *byte == front.get(at).copied().unwrap_or(STALE))
     }
 
     // Checks the shortest chain between the sets by its nodes: none if no chain leads there.
@@ -152,20 +148,18 @@ object /bin/b
 object /bin/c
 ";
 
-    fn write_policy(heap: Global, domains: &[&str]) -> Result<Vec<u8>, AllocError> {
-        let mut text = Vec::new(heap);
-        text.extend_from_slice(OBJECTS.as_bytes())?;
+    fn write_policy(heap: Global, domains: &[&str]) -> Result<String, Fail> {
+        let mut text = String::new(heap);
+        text.push_str(OBJECTS)?;
         for domain in domains {
-            text.extend_from_slice(b"spec_domain ")?;
-            text.extend_from_slice(domain.as_bytes())?;
-            text.extend_from_slice(b"\n")?;
+            writeln!(text, "spec_domain {domain}")?;
         }
         Ok(text)
     }
 
     fn check_case(rt: &impl Abort, heap: Global, case: Case) -> Result<(), Fail> {
         let text = write_policy(heap, case.domains)?;
-        let policy = open(heap, text.as_slice())?;
+        let policy = open(heap, text.as_bytes())?;
         check_chain(rt, &policy, &[case.from], &[case.to], case.nodes, case.why)
     }
 

@@ -1,7 +1,7 @@
 -- A copy byte by byte, with zeros behind it.
 use Rattle.std.proofs.Common.{◌≡◌, ℕ, suc, ◌+◌, ◌-◌, ◌<◌, ◌≤◌, List, [], ◌∷◌, ◌++◌, length, get_or, take, set, replicate, sym, ap, ◌∙◌, arith}
 use Rattle.std.proofs.lemmas.List.{append_assoc, length-take-le, set_at, take_more, take_all}
-use Rattle.label.specs.Held.{padded}
+use Rattle.label.specs.Shorts.{padded}
 
 -- the first i bytes, with zeros behind them
 abbrev pub copied : ℕ → List ℕ → ℕ → List ℕ

@@ -1,14 +1,11 @@
 -- The test of an ancestor's length is the relation.
 use Rattle.std.proofs.Common.{◌≡◌, ℕ, zero, suc, ◌+◌, ◌-◌, ◌<◌, true, ◌&&◌, ◌||◌, eqb, ltb, ◌⊎◌, List, [], ◌∷◌, ◌++◌, length, get_or, take, sym, refl, ap, ◌∙◌, subst, inl, inr, ⊎_elim, arith}
 use Rattle.std.specs.List.{AllByRecursion}
-use Rattle.std.proofs.lemmas.List.{append_assoc, take_at, get_or_at, get_or_append_left, get_or-append_right, length-append, nil_from_length, length-take}
+use Rattle.std.proofs.lemmas.List.{take_at, get_or_at, get_or_append_left, get_or-append_right, length-append, nil_from_length, length-take}
+use Rattle.std.proofs.lemmas.Grind.{flat_map-append}
 use Rattle.std.proofs.ByRecursion.{All-get_or}
 use Rattle.std.proofs.lemmas.Bool.{cases_lt, and_parts, and_from, or_cases, or_left, or_right, ltb-true, lt-ltb, eqb-true, eq-eqb}
 use Rattle.label.specs.Paths.{PathByte, Component, IsPath, Ancestor, Ancestors, ancestor, slashed, written}
-
-slashed-append : (xs ys : List (List ℕ)) → slashed (xs ++ ys) ≡ slashed xs ++ slashed ys
-slashed-append [] ys = refl
-slashed-append (x ∷ xs) ys = ap (λ z. 47 ∷ x ++ z) (slashed-append xs ys) ∙ ap (λ z. 47 ∷ z) (sym (append_assoc x (slashed xs) (slashed ys)))
 
 -- where a slash stands, the components are cut
 record Cut (cs : List (List ℕ)) (n : ℕ) : Type 0 where
@@ -33,7 +30,7 @@ cut (c ∷ cs) (suc n) a l e =
 
 -- the written of the front is a front of the written
 slashed_front : (c : List ℕ) (cs : List (List ℕ)) (d : List ℕ) (ds : List (List ℕ)) → written ((c ∷ cs) ++ d ∷ ds) ≡ written (c ∷ cs) ++ 47 ∷ (d ++ slashed ds)
-slashed_front c cs d ds = slashed-append (c ∷ cs) (d ∷ ds)
+slashed_front c cs d ds = flat_map-append (λ x. 47 ∷ x) (c ∷ cs) (d ∷ ds)
 
 component_long : (c : List ℕ) → Component c → 0 < length c
 component_long c n = ⊎_elim (λ l. l) (λ l. absurd (n.some (nil_from_length c (omega arith)))) (cases_lt 0 (length c))

@@ -1,100 +1,45 @@
 -- Facts of components and of paths, for the proofs of the functions.
-use Rattle.std.proofs.Common.{◌≡◌, ℕ, suc, ◌+◌, ◌-◌, ◌<◌, ◌≤◌, ◌⊎◌, List, [], ◌∷◌, ◌++◌, length, get_or, take, drop, codes, sym, refl, ap, ◌∙◌, subst, inl, inr, ⊎_elim, arith}
-use native.Mathlib.Bridge.{le_prop}
-use Rattle.std.proofs.lemmas.List.{nil_from_length, append-nil, drop_more, take-append-drop, take_at, drop_at, get_or_at, get_or_append_left, length-append, take_all, drop-drop, take_rest}
-use Rattle.std.proofs.ByRecursion.{All-get_or}
-use Rattle.std.proofs.lemmas.Bool.{cases_order}
-use mathlib.Core.Logic.{∥∥₁_elim}
+use Rattle.std.proofs.Common.{◌≡◌, ℕ, suc, ◌-◌, ◌<◌, ◌≤◌, Bool, false, eqb, List, [], ◌∷◌, ◌++◌, length, get_or, take, drop, codes, sym, refl, ap, ◌∙◌, subst, arith}
+use Rattle.std.proofs.lemmas.List.{append-nil, drop_more, take_rest}
+use Rattle.std.proofs.lemmas.List.Elements.{All-from_recursion}
+use Rattle.std.proofs.lemmas.List.Splits.{slice_split_none, slice_split_at, length-slice_split, join_with_byte-slice_split}
+use Rattle.std.proofs.lemmas.Bool.{ne_eqb}
 use Rattle.std.proofs.lemmas.Slice.Eq.{text_from_reads}
-use Rattle.std.specs.List.{AllByRecursion}
+use Rattle.std.specs.List.{All, AllByRecursion, slice_split, join_with_byte}
 use Rattle.label.specs.Paths.{PathByte, Component, IsRest, IsPath, slashed, written}
 
-pub component_some : (c : List ℕ) → length c < 1 → Component c → ⊥
-component_some c l n = n.some (nil_from_length c (omega arith))
+abbrev pub is_slash : ℕ → Bool
+is_slash b = eqb b 47
 
-pub component_dot : (c : List ℕ) → length c ≡ 1 → get_or c 0 0 ≡ 46 → Component c → ⊥
-component_dot c l a n = n.dot (text_from_reads c (codes ".") l (a, tt))
+-- the parts between the slashes
+abbrev pub parts : List ℕ → List (List ℕ)
+parts s = slice_split is_slash s
 
-pub component_dots : (c : List ℕ) → length c ≡ 2 → get_or c 0 0 ≡ 46 → get_or c 1 0 ≡ 46 → Component c → ⊥
-component_dots c l a b n = n.dots (text_from_reads c (codes "..") l (a, (b, tt)))
+slashed_joined : (c : List ℕ) (cs : List (List ℕ)) → slashed (c ∷ cs) ≡ 47 ∷ join_with_byte 47 (c ∷ cs)
+slashed_joined c [] = ap (λ x. 47 ∷ x) (append-nil c)
+slashed_joined c (d ∷ ds) = ap (λ x. 47 ∷ (c ++ x)) (slashed_joined d ds)
 
-pub component_from : (c : List ℕ) → AllByRecursion PathByte c → (length c ≡ 0 → ⊥) → (length c ≡ 1 → get_or c 0 0 ≡ 46 → ⊥) → (length c ≡ 2 → get_or c 0 0 ≡ 46 → get_or c 1 0 ≡ 46 → ⊥) → Component c
-component_from c a p q r =
-    record {
-      bytes = a;
-      some = λ e. p (ap length e);
-      dot = λ e. q (ap length e) (ap (λ x. get_or x 0 0) e);
-      dots = λ e. r (ap length e) (ap (λ x. get_or x 0 0) e) (ap (λ x. get_or x 1 0) e);
-    }
+pub rest_from_parts : (s : List ℕ) → AllByRecursion Component (parts s) → IsRest s
+rest_from_parts s a = go (parts s) (omega (arith, length-slice_split is_slash s)) (join_with_byte-slice_split 47 s) a
+  where
+    go : (cs : List (List ℕ)) → 0 < length cs → join_with_byte 47 cs ≡ s → AllByRecursion Component cs → IsRest s
+    go [] l e a = absurd (omega (arith, l))
+    go (c ∷ cs) l e a = record { first = c; others = cs; components = a; whole = ap (λ x. 47 ∷ x) (sym e) ∙ sym (slashed_joined c cs) }
 
--- n is where the first slash stands, or the length
-pub record First (s : List ℕ) (n : ℕ) : Type 0 where
-  pub within : n ≤ length s
-  pub before : (k : ℕ) → k < n → get_or s k 0 ≡ 47 → ⊥
-  pub found : n < length s → get_or s n 0 ≡ 47
+no_slash : (c : List ℕ) → AllByRecursion PathByte c → All (λ b. is_slash b ≡ false) c
+no_slash c a k d l = ne_eqb _ 47 (All-from_recursion PathByte c a k d l).slash
 
-pub components_one : (s : List ℕ) → Component s → IsRest s
-components_one s n = record { first = s; others = []; components = (n, tt); whole = sym (append-nil (47 ∷ s)) }
-
-pub components_more : (s : List ℕ) (n : ℕ) → n < length s → get_or s n 0 ≡ 47 → Component (take n s) → IsRest (drop (n + 1) s) → IsRest s
-components_more s n l e a m =
-    record {
-      first = take n s;
-      others = m.first ∷ m.others;
-      components = (a, m.components);
-      whole =
-          let d : drop n s ≡ 47 ∷ drop (n + 1) s = drop_more s n 0 l ∙ ap (λ x. x ∷ drop (n + 1) s) e in
-          ap (λ x. 47 ∷ x) (sym (take-append-drop n s) ∙ ap (λ x. take n s ++ x) (d ∙ m.whole));
-    }
+-- components with a slash between them are the parts
+parts_are : (c : List ℕ) (cs : List (List ℕ)) → AllByRecursion Component (c ∷ cs) → parts (c ++ slashed cs) ≡ c ∷ cs
+parts_are c [] a = ap parts (append-nil c) ∙ slice_split_none is_slash c (no_slash c a.0.bytes)
+parts_are c (d ∷ ds) a = slice_split_at is_slash c 47 (d ++ slashed ds) (no_slash c a.0.bytes) refl ∙ ap (λ x. c ∷ x) (parts_are d ds a.1)
 
 abbrev tail : List ℕ → List ℕ
 tail [] = []
 tail (x ∷ xs) = xs
 
--- the first component ends at the first slash
-component_ends : (c t : List ℕ) (n : ℕ) → Component c → First (c ++ 47 ∷ t) n → n ≡ length c
-component_ends c t n a f =
-    let q : get_or (c ++ 47 ∷ t) (length c) 0 ≡ 47 = get_or_at c 47 t 0 (length c) refl in
-    let z : length (c ++ 47 ∷ t) ≡ length c + length (47 ∷ t) = length-append c (47 ∷ t) in
-    ⊎_elim (λ e. e)
-    (⊎_elim
-    (λ l. absurd ((All-get_or PathByte c n 0 l a.bytes).slash (sym (get_or_append_left c (47 ∷ t) 0 n l) ∙ f.found (omega (arith, z)))))
-    (λ l. absurd (f.before (length c) l q)))
-    (cases_order n (length c))
-
-pub components_back : (s : List ℕ) (n : ℕ) → First s n → IsRest s → Component (take n s) × ((n ≡ length s) ⊎ IsRest (drop (n + 1) s))
-components_back s n f m = go m.first m.others m.components (ap tail m.whole)
-  where
-    go : (c : List ℕ) (cs : List (List ℕ)) → AllByRecursion Component (c ∷ cs) → s ≡ c ++ slashed cs → Component (take n s) × ((n ≡ length s) ⊎ IsRest (drop (n + 1) s))
-    go c [] a e =
-        let s≡c : s ≡ c = e ∙ append-nil c in
-        let b : AllByRecursion PathByte s = subst (AllByRecursion PathByte) (sym s≡c) a.0.bytes in
-        let end : n ≡ length s =
-        ⊎_elim (λ x. x) (⊎_elim (λ l. absurd ((All-get_or PathByte s n 0 l b).slash (f.found l))) (λ l. omega arith)) (cases_order n (length s)) in
-        (subst Component (sym (take_all n s (omega arith) ∙ s≡c)) a.0, inl end)
-    go c (d ∷ ds) a e =
-        let t : List ℕ = d ++ slashed ds in
-        let end : length c ≡ n = sym (component_ends c t n a.0 (subst (λ x. First x n) e f)) in
-        let front : take n s ≡ c = ap (take n) e ∙ take_at c (47 ∷ t) n end in
-        let back : drop n s ≡ 47 ∷ t = ap (drop n) e ∙ drop_at c (47 ∷ t) n end in
-        let rest : drop (n + 1) s ≡ t = sym (drop-drop 1 n s) ∙ ap (drop 1) back in
-        (subst Component (sym front) a.0, inr (subst IsRest (sym rest) (record { first = d; others = ds; components = a.1; whole = refl })))
-
--- the same, where the test has `&s[0..n]` and `&s[n + 1..]`
-pub components_at_end : (s : List ℕ) (n : ℕ) → n ≡ length s → Component (take (n - 0) s) → IsRest s
-components_at_end s n e a = components_one s (subst Component (take_all (n - 0) s (omega arith)) a)
-
-pub components_step : (s : List ℕ) (n : ℕ) → First s n → (n ≡ length s → ⊥) → Component (take (n - 0) s) → IsRest (take (length s - (n + 1)) (drop (n + 1) s)) → IsRest s
-components_step s n f l a m =
-    let lt : n < length s = omega (arith, f.within, l) in
-    let z : n - 0 ≡ n = omega arith in
-    components_more s n lt (f.found lt) (subst (λ k. Component (take k s)) z a) (subst IsRest (take_rest s (n + 1)) m)
-
-pub components_first : (s : List ℕ) (n : ℕ) → First s n → IsRest s → Component (take (n - 0) s)
-components_first s n f m = let z : n ≡ n - 0 = omega arith in subst (λ k. Component (take k s)) z (components_back s n f m).0
-
-pub components_rest : (s : List ℕ) (n : ℕ) → First s n → (n ≡ length s → ⊥) → IsRest s → IsRest (take (length s - (n + 1)) (drop (n + 1) s))
-components_rest s n f l m = subst IsRest (sym (take_rest s (n + 1))) (⊎_elim (λ e. absurd (l e)) (λ x. x) (components_back s n f m).1)
+pub parts_from_rest : (s : List ℕ) → IsRest s → AllByRecursion Component (parts s)
+parts_from_rest s m = subst (AllByRecursion Component) (sym (ap (λ x. parts (tail x)) m.whole ∙ parts_are m.first m.others m.components)) m.components
 
 pub path_root : (s : List ℕ) → length s ≡ 1 → get_or s 0 0 ≡ 47 → IsPath s
 path_root s l e = record { parts = []; components = tt; whole = text_from_reads s (codes "/") l (e, tt); short = omega arith }
@@ -122,6 +67,3 @@ path_back s l p = subst IsRest (sym (take_rest s 1)) (go p.parts p.components p.
     go : (cs : List (List ℕ)) → AllByRecursion Component cs → s ≡ written cs → IsRest (drop 1 s)
     go [] a e = absurd (l (ap length e))
     go (c ∷ cs) a e = record { first = c; others = cs; components = a; whole = ap (λ x. 47 ∷ drop 1 x) e }
-
-pub path_short : (s : List ℕ) → ∥ IsPath s ∥₁ → length s ≤ 64
-path_short s h = ∥∥₁_elim h le_prop (λ p. p.short)

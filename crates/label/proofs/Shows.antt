@@ -1,38 +1,28 @@
 -- What is written of a set of letters, letter by letter.
-use Rattle.std.proofs.Common.{◌≡◌, ℕ, ◌+◌, ◌<◌, ◌≤◌, Bool, true, false, cond, List, [], ◌∷◌, ◌++◌, get_or, take, codes, sym, refl, ap, ◌∙◌, lit<}
+use Rattle.std.proofs.Common.{◌≡◌, ℕ, ◌+◌, ◌<◌, true, false, List, [], ◌∷◌, ◌++◌, get_or, take, codes, sym, ap, ◌∙◌, lit<}
 use lib.Utf8.{encode}
 use Rattle.std.proofs.ByRecursion.{All-get_or}
-use Rattle.std.proofs.lemmas.List.{append-nil, take_more, take_all}
+use Rattle.std.proofs.lemmas.List.{append-nil, take_more}
+use Rattle.std.proofs.lemmas.List.Elements.{filter-append}
 use Rattle.std.proofs.lemmas.Str.{encode_ascii}
-use Rattle.std.proofs.lemmas.Bool.{cond-true, cond-false, ne_eqb}
-use Rattle.std.proofs.Output.{writes_in_calls_nil, has_written_append, has_written_of_eq, has_written_to_eq}
-use Rattle.std.specs.Fmt.{IsPlainFormatter, HasWritten}
+use Rattle.std.proofs.lemmas.Bool.{cond-true, cond-false}
+use Rattle.std.proofs.Output.{has_written_append, has_written_of_eq, has_written_to_eq}
+use Rattle.std.specs.Fmt.{HasWritten}
 use Rattle.std.specs.declared.fmt.Formatter.{Formatter}
 use Rattle.label.specs.declared.rights.Rights.{Rights}
 use Rattle.label.specs.Letters.{has}
-use Rattle.label.specs.Shown.{those, letters}
+use Rattle.label.specs.Shown.{those}
 
 abbrev order : List ℕ
 order = codes "rwaxcd"
 
-with_more : (b : Bool) (x : ℕ) (xs ys zs : List ℕ) → zs ≡ xs ++ ys → cond b (x ∷ zs) zs ≡ cond b (x ∷ xs) xs ++ ys
-with_more true x xs ys zs e = ap (λ z. x ∷ z) e
-with_more false x xs ys zs e = e
-
-those-append : (s : Rights) (xs ys : List ℕ) → those s (xs ++ ys) ≡ those s xs ++ those s ys
-those-append s [] ys = refl
-those-append s (x ∷ xs) ys = with_more (has s x) x (those s xs) (those s ys) (those s (xs ++ ys)) (those-append s xs ys)
-
 those_more : (s : Rights) (i : ℕ) → i < 6 → those s (take (i + 1) order) ≡ those s (take i order) ++ those s (get_or order i 0 ∷ [])
-those_more s i l = ap (those s) (take_more order i 0 l) ∙ those-append s (take i order) (get_or order i 0 ∷ [])
+those_more s i l = ap (those s) (take_more order i 0 l) ∙ filter-append (has s) (take i order) (get_or order i 0 ∷ [])
 
 letter_is_ascii : (i : ℕ) → i < 6 → get_or order i 0 < 128
 letter_is_ascii i l = All-get_or (λ c. c < 128) order i 0 l (lit< tt, (lit< tt, (lit< tt, (lit< tt, (lit< tt, (lit< tt, tt))))))
 
 module _ {W : Type 0} (took : W → List ℕ → W → Type 0) (s : Rights) where
-  pub no_letter_put : (f : Formatter W) → IsPlainFormatter f → HasWritten took f [] f
-  no_letter_put f p = record { wrote = writes_in_calls_nil took f.writer; plain = p }
-
   pub letter_put : (i : ℕ) (f g h h' : Formatter W) → i < 6 → has s (get_or order i 0) ≡ true → h' ≡ h → HasWritten took f (those s (take i order)) g → HasWritten took g (encode (get_or order i 0)) h → HasWritten took f (those s (take (i + 1) order)) h'
   letter_put i f g h h' l e z p q =
       has_written_to_eq took f _ h h' z
@@ -44,7 +34,3 @@ module _ {W : Type 0} (took : W → List ℕ → W → Type 0) (s : Rights) wher
   letter_passed i f g g' l e z p =
       has_written_to_eq took f _ g g' z
       (has_written_of_eq took f _ _ g (sym (those_more s i l ∙ ap (λ x. those s (take i order) ++ x) (cond-false _ _ _ e) ∙ append-nil (those s (take i order)))) p)
-
-  pub letters_put : (i : ℕ) (f g : Formatter W) → 6 ≤ i → (s.bits ≡ 0 → ⊥) → HasWritten took f (those s (take i order)) g → HasWritten took f (letters s) g
-  letters_put i f g l n =
-      has_written_of_eq took f _ _ g (ap (those s) (take_all i order l) ∙ sym (cond-false _ _ _ (ne_eqb s.bits 0 n)))

@@ -1,5 +1,6 @@
 pub mod Refusals
 pub mod Letters
+pub mod Shorts
 pub mod Names
 pub mod Paths
 pub mod Texts

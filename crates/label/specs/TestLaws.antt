@@ -3,7 +3,7 @@ use Rattle.std.specs.Prelude.{◌≡◌, ℕ, ◌≤◌, Bool, true, false, cond
 use Rattle.std.proofs.Common.{sym, ap, subst, ◌∙◌, inl, inr, ⊎_elim}
 use Rattle.std.specs.List.{AllByRecursion}
 use Rattle.std.proofs.lemmas.List.{append_assoc}
-use Rattle.std.proofs.ByRecursion.{All-append}
+use Rattle.std.proofs.ByRecursion.{All-append, Decides-by_and}
 use Rattle.std.proofs.lemmas.Bool.{and_parts, and_from, or_cases, or_left, or_right, or_parts, or_from, le-leb, leb-true, eq-eqb, ne_eqb, eqb-true, eqb-false, not-true, not_from_false, cases_Bool, cases_eq, cond-true, cond-false, both_ways}
 use Rattle.label.specs.Names.{Lower, NameByte, IsName}
 use Rattle.label.specs.Paths.{PathByte, Component, IsRest, IsPath, slashed, written}
@@ -29,11 +29,7 @@ name_byte_test b = (
 )
 
 name_bytes_test : (s : List ℕ) → Decides (name_bytes s) (AllByRecursion NameByte s)
-name_bytes_test [] = (λ _. tt, λ _. refl)
-name_bytes_test (b ∷ bs) = (
-  λ e. let p = and_parts (name_byte b) (name_bytes bs) e in ((name_byte_test b).0 p.0, (name_bytes_test bs).0 p.1),
-  λ a. and_from (name_byte b) (name_bytes bs) ((name_byte_test b).1 a.0) ((name_bytes_test bs).1 a.1),
-)
+name_bytes_test = Decides-by_and name_byte NameByte name_bytes name_byte_test refl (λ _ _. refl)
 
 pub name_test : (s : List ℕ) → Decides (is_name s) (IsName s)
 unfolding is_name

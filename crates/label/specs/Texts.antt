@@ -8,10 +8,10 @@ use Rattle.label.specs.Names.{IsName}
 use Rattle.label.specs.Paths.{IsPath}
 
 abbrev pub name_text : Name → List ℕ
-name_text n = take n.len n.bytes
+name_text n = take n.text.len n.text.bytes
 
 abbrev pub text : Path → List ℕ
-text p = take p.len p.bytes
+text p = take p.text.len p.text.bytes
 
 -- the bytes are a name and it is held, or they are none and are refused
 abbrev pub ReadsName : List ℕ → Result Name Refusal → Type 0

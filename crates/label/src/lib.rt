@@ -8,5 +8,5 @@ pub mod path;
 pub mod paths;
 pub mod refusal;
 pub mod rights;
+mod short;
 pub mod show;
-pub mod texts;

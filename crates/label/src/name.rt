@@ -1,11 +1,12 @@
 // A name that is held: at most 24 bytes, known to be a name.
-ghost use Rattle.std.specs.Prelude.{◌≤◌, take};
+// Names and paths are two types, so that neither is taken for the other. What they share is in `Short`, and each calls it in a line.
+ghost use Rattle.std.specs.Prelude.{take};
 ghost use Rattle.label.specs.Names.{IsName};
 
-#[derive(Clone, Copy)]
+use crate::short::Short;
+
+#[derive(Clone, Copy, PartialEq, Debug)]
 pub struct Name {
-    pub(crate) bytes: [u8; 24],
-    pub(crate) len: usize,
-    ghost fits: { len ≤ 24 },
-    ghost ok: { ∥ IsName (take len bytes) ∥₁ },
+    pub(crate) text: Short<24>,
+    ghost ok: { ∥ IsName (take text.len text.bytes) ∥₁ },
 }

@@ -1,11 +1,11 @@
 // A path that is held: at most 64 bytes, known to be a path.
-ghost use Rattle.std.specs.Prelude.{◌≤◌, take};
+ghost use Rattle.std.specs.Prelude.{take};
 ghost use Rattle.label.specs.Paths.{IsPath};
 
-#[derive(Clone, Copy)]
+use crate::short::Short;
+
+#[derive(Clone, Copy, PartialEq, Debug)]
 pub struct Path {
-    pub(crate) bytes: [u8; 64],
-    pub(crate) len: usize,
-    ghost fits: { len ≤ 64 },
-    ghost ok: { ∥ IsPath (take len bytes) ∥₁ },
+    pub(crate) text: Short<64>,
+    ghost ok: { ∥ IsPath (take text.len text.bytes) ∥₁ },
 }

@@ -1,19 +1,15 @@
 //! Paths: their form, and the lengths of their ancestors.
-ghost use Rattle.std.specs.Prelude.{nat_eq, ◌≡◌, ℕ, ◌+◌, ◌<◌, ◌≤◌, length, Some, codes, Decides, ◌≢◌, slice_index};
-ghost use Rattle.std.specs.List.{AllByRecursion};
+ghost use Rattle.std.specs.Prelude.{◌≡◌, ◌≤◌, length, Some, codes, Decides};
 ghost use Rattle.label.specs.Paths.{PathByte, Component, IsRest, IsPath, Ancestors, ancestor};
 ghost use Rattle.std.specs.Option.{ok_or};
 ghost use Rattle.label.specs.Held.{pathed};
 ghost use Rattle.label.specs.Texts.{text, ReadsPath};
 ghost use Rattle.label.specs.declared.refusal.Refusal.TheVariants.{Misshapen};
-ghost use Rattle.std.specs.Cmp.Lexicographic.{pointwise};
-ghost use Rattle.std.specs.Cmp.Rules.{comparing};
-ghost use Rattle.std.specs.Ordering.{on};
-ghost use Rattle.std.proofs.Common.{rules};
 
 use crate::path::Path;
 use crate::refusal::Refusal;
-use crate::texts::held;
+use crate::short::Short;
+use std::convert::AsSlice;
 
 fn is_path_byte(b: u8) -> bool
     ensures { Decides result (PathByte b) }
@@ -25,46 +21,20 @@ fn is_path_byte(b: u8) -> bool
     }
 }
 
-fn are_path_bytes(c: &[u8]) -> bool
-    ensures { Decides result (AllByRecursion PathByte c.now) }
-{
-    for b in c {
-        if !is_path_byte(*b) {
-            return false;
-        }
-    }
-    true
-}
-
 fn is_component(c: &[u8]) -> bool
     ensures { Decides result (Component c.now) }
 {
     match c {
         [] | b"." | b".." => false,
-        _ => are_path_bytes(c),
+        _ => c.iter().copied().all(is_path_byte),
     }
-}
-
-// How many bytes stand before the first slash.
-fn component_len(s: &[u8]) -> usize
-    ensures within { result ≤ length s.now }
-    ensures before { (k : ℕ) → k < result → slice_index s.now k ≢ 47 }
-    ensures found { result < length s.now → slice_index s.now result ≡ 47 }
-{
-    for (i, b) in s.iter().enumerate() {
-        if *b == b'/' {
-            return i;
-        }
-    }
-    s.len()
 }
 
 // Whether these are one component or more, with a slash between them.
 fn are_components(s: &[u8]) -> bool
     ensures { Decides result (IsRest s.now) }
 {
-    let n = component_len(s);
-    is_component(&s[0..n]) && (n == s.len() || are_components(&s[n + 1..]))
+    s.split(|b| *b == b'/').all(is_component)
 }
 
 // Whether the bytes are a path: its leading slash, and the components after it.
@@ -100,10 +70,7 @@ impl Path {
         if !is_path(s) {
             return Err(Refusal::Misshapen);
         }
-        Ok(Path {
-            bytes: held(s),
-            len: s.len(),
-        })
+        Ok(Path { text: Short::of(s) })
     }
 
     // The path without components.
@@ -112,8 +79,7 @@ impl Path {
         ensures value { Some result ≡ pathed (codes "/") }
     {
         Path {
-            bytes: held(b"/"),
-            len: 1,
+            text: Short::of(b"/"),
         }
     }
 
@@ -122,17 +88,14 @@ impl Path {
         ensures path { ∥ IsPath result.now ∥₁ }
         ensures short { length result.now ≤ 64 }
     {
-        &self.bytes[0..self.len]
+        self.text.as_bytes()
     }
 }
 
-// Paths are equal where their texts are.
-impl PartialEq for Path {
-    ghost eq = { on text (pointwise nat_eq) };
+impl AsSlice<u8> for Path {
+    ghost items = { text };
 
-    ghost laws = { Prim.search (comparing, rules) };
-
-    fn eq(&self, other: &Path) -> bool {
-        self.as_bytes() == other.as_bytes()
+    fn as_slice(&self) -> &[u8] {
+        self.as_bytes()
     }
 }

@@ -1,6 +1,8 @@
 //! Why a call is refused.
 ghost use Rattle.std.specs.Prelude.{◌≡◌};
-ghost use Rattle.label.specs.Refusals.{number};
+ghost use Rattle.label.specs.Refusals.{number, refuses_more};
+
+use std::alloc::{AllocError, AllocFailed};
 
 #[derive(Clone, Copy, PartialEq, Eq, Debug)]
 pub enum Refusal {
@@ -52,5 +54,37 @@ impl Refusal {
             Refusal::NoPassage => Some(31),
             Refusal::Memory => None,
         }
+    }
+}
+
+// Why one more entry is refused: it is there already, or there are as many as there may be.
+pub fn refuses_more(there: bool, count: usize, most: usize) -> Option<Refusal>
+    ensures { result ≡ refuses_more there count most }
+{
+    if there {
+        return Some(Refusal::Repeated);
+    }
+    (count >= most).then_some(Refusal::Full)
+}
+
+// Want of memory is a refusal.
+impl From<AllocError> for Refusal {
+    ghost use Rattle.label.specs.declared.refusal.Refusal.TheVariants.{Memory};
+
+    ghost from_gives = { λ _ r. r ≡ Memory };
+
+    fn from(_wanting: AllocError) -> Refusal {
+        Refusal::Memory
+    }
+}
+
+// What was to be stored is let go.
+impl<T: Drop> From<AllocFailed<T>> for Refusal {
+    ghost use Rattle.label.specs.declared.refusal.Refusal.TheVariants.{Memory};
+
+    ghost from_gives = { λ _ r. r ≡ Memory };
+
+    fn from(wanting: AllocFailed<T>) -> Refusal {
+        AllocError::from(wanting).into()
     }
 }

@@ -13,7 +13,7 @@ pub struct Rights {
     bits: u8,
 }
 
-// The bit of a letter.
+// The bit of a letter. Letters stand as they are written in the rules.
 fn bit(letter: char) -> Option<u8>
     ensures { result ≡ bit letter }
 {
@@ -40,10 +40,7 @@ impl Rights {
     pub fn of(letter: char) -> Option<Rights>
         ensures { option_map (λ s. s.bits) result ≡ bit letter }
     {
-        match bit(letter) {
-            Some(bits) => Some(Rights { bits }),
-            None => None,
-        }
+        bit(letter).map(|bits| Rights { bits })
     }
 
     // The letters of either set.
@@ -59,10 +56,7 @@ impl Rights {
     pub fn has(self, letter: char) -> bool
         ensures { result ≡ has self letter }
     {
-        match bit(letter) {
-            Some(b) => self.bits & b != 0,
-            None => false,
-        }
+        bit(letter).is_some_and(|b| self.bits & b != 0)
     }
 }
 

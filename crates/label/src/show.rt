@@ -8,16 +8,12 @@ use crate::path::Path;
 use crate::refusal::Refusal;
 use crate::rights::{LETTERS, Rights};
 use std::fmt;
-use std::fmt::Debug;
 
 impl fmt::Display for Name {
     ghost output = { λ n. Some (name_text n) };
 
     fn fmt<W: fmt::Write>(&self, f: &mut fmt::Formatter<W>) -> fmt::Result {
-        match std::str::from_utf8(self.as_bytes()) {
-            Ok(s) => f.pad(s),
-            Err(_) => Err(fmt::Error),
-        }
+        fmt::Display::fmt(&self.text, f)
     }
 }
 
@@ -25,22 +21,7 @@ impl fmt::Display for Path {
     ghost output = { λ p. Some (text p) };
 
     fn fmt<W: fmt::Write>(&self, f: &mut fmt::Formatter<W>) -> fmt::Result {
-        match std::str::from_utf8(self.as_bytes()) {
-            Ok(s) => f.pad(s),
-            Err(_) => Err(fmt::Error),
-        }
-    }
-}
-
-impl fmt::Debug for Name {
-    fn fmt<W: fmt::Write>(&self, f: &mut fmt::Formatter<W>) -> fmt::Result {
-        fmt::Display::fmt(self, f)
-    }
-}
-
-impl fmt::Debug for Path {
-    fn fmt<W: fmt::Write>(&self, f: &mut fmt::Formatter<W>) -> fmt::Result {
-        fmt::Display::fmt(self, f)
+        fmt::Display::fmt(&self.text, f)
     }
 }
 
@@ -52,6 +33,7 @@ impl fmt::Display for Rights {
         if *self == Rights::none() {
             return f.write_str("-");
         }
+        // Each letter may fail to be written, and the first that does ends the loop.
         for letter in LETTERS {
             if self.has(letter) {
                 f.write_char(letter)?;

@@ -6,14 +6,13 @@ ghost use Rattle.label.specs.Refusals.{refuses_more, Takes};
 ghost use Rattle.lists.specs.Places.{place_of};
 
 use crate::distinct::Distinct;
-use crate::texts::Text;
-use label::refusal::Refusal;
+use label::refusal::{Refusal, refuses_more};
 use std::alloc::{AllocError, Global};
+use std::convert::AsSlice;
 
 pub mod distinct;
-pub mod texts;
 
-impl<T: Text, const N: usize> Distinct<T, N> {
+impl<T: AsSlice<u8> + Copy, const N: usize> Distinct<T, N> {
     pub fn new(heap: Global) -> Distinct<T, N>
         ensures { result.list.items ≡ [] }
     {
@@ -24,30 +23,20 @@ impl<T: Text, const N: usize> Distinct<T, N> {
 
     // The number of the label with this text.
     pub fn find(&self, text: &[u8]) -> Option<usize>
-        ensures place { result ≡ place_of (map T.Text.text self.now.list.items) text.now }
+        ensures place { result ≡ place_of (map T.items self.now.list.items) text.now }
         ensures within { IfSome result (λ i. i < N) }
     {
-        for (i, label) in self.list.iter().enumerate() {
-            if label.bytes() == text {
-                return Some(i);
-            }
-        }
-        None
+        self.list.iter().position(|label| label.as_slice() == text)
     }
 
     // Adds a label, unless one has its text, or there are N.
     pub fn add(&mut self, label: T) -> Result<(), Refusal>
-        ensures { Takes (refuses_more (is_some (place_of (map T.Text.text self.old.list.items) (T.Text.text label))) (length self.old.list.items) N) self.old.list.items (self.old.list.items ++ label ∷ []) result self.new.list.items }
+        ensures { Takes (refuses_more (is_some (place_of (map T.items self.old.list.items) (T.items label))) (length self.old.list.items) N) self.old.list.items (self.old.list.items ++ label ∷ []) result self.new.list.items }
     {
-        if self.find(label.bytes()).is_some() {
-            return Err(Refusal::Repeated);
-        }
-        if self.list.len() >= N {
-            return Err(Refusal::Full);
-        }
-        match self.list.push(label) {
-            Ok(()) => Ok(()),
-            Err(_) => Err(Refusal::Memory),
+        let there = self.find(label.as_slice()).is_some();
+        match refuses_more(there, self.list.len(), N) {
+            Some(refusal) => Err(refusal),
+            None => Ok(self.list.push(label)?),
         }
     }
 
@@ -66,7 +55,7 @@ impl<T: Text, const N: usize> Distinct<T, N> {
         self.list.len()
     }
 
-    // A copy of the labels, in memory of its own.
+    // A copy of the labels, in memory of its own. The caller names the memory, which `clone` has no way to take.
     pub fn copy(&self, heap: Global) -> Result<Distinct<T, N>, AllocError>
         ensures { IfOk result (λ c. c.list.items ≡ self.now.list.items) }
     {

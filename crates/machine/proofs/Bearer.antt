@@ -14,7 +14,7 @@ use Rattle.machine.specs.Flow.{Live, Node, obj, dom, Change, by_writing, by_appe
 use Rattle.machine.specs.Separation.{AlikeOutside, Separated}
 use Rattle.machine.specs.Recipe.{Recipe, always, if_read_empty, reads_empty, has_read_empty, rule_of}
 use Rattle.machine.specs.Leak.{drive, quiet, telling, Carried, seat_of, Reached, hand_over, forward, carried, finished, first_beginning, second_beginning, leak_lines, leak_series, Leaks, PlainCall, PlainRecipe}
-use Rattle.machine.proofs.Checks.{zero_is_one, eqb_self, admit}
+use Rattle.machine.proofs.Checks.{eqb_self, admit}
 use Rattle.machine.proofs.Steps.{plain_lines_possible, plain_pass, plain_read, Present, present_moves, run_is_not_empty, other_answer_changes_nothing, empty_answer_is_heard, Runs, run_join, Acted, Turned, turned, looked, may_pass, may_read, Driven, driven}
 
 seat_is : (b : Bool) → seat_of b < 2
@@ -371,7 +371,7 @@ module _ (P : Policy) where
           differ = λ z.
               let p : eqb o from ≡ true = ap (λ (i : ℕ). eqb i from) e ∙ eqb_self from in
               let w : ◌≡◌ {A = Option Bytes} (Some []) (Some (1 ∷ [])) = z ∙ ap (λ (b : Bool). Some (cond b (1 ∷ []) [])) p in
-              zero_is_one (cc);
+              cc;
         }
     unlike o (Some r) h =
         record {

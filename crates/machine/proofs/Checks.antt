@@ -1,5 +1,5 @@
 -- The checks of a call, read in both directions, and the small facts that the proofs share.
-use Rattle.std.proofs.Common.{◌≡◌, ℕ, ◌<◌, ◌≤◌, Bool, true, false, cond, eqb, ltb, leb, ◌≢◌, List, ◌∷◌, length, is_ok, Some, None, Ok, Err, Option, Result, sym, refl, ap, ◌∙◌, true≢false, arith}
+use Rattle.std.proofs.Common.{◌≡◌, ℕ, ◌<◌, ◌≤◌, Bool, true, false, cond, eqb, ltb, leb, ◌≢◌, List, ◌∷◌, length, is_ok, Some, None, Ok, Err, Option, Result, refl, ap, ◌∙◌}
 use mathlib.Core.List.{List-discrete}
 use native.Mathlib.Decide.{ℕ_discrete}
 use Rattle.std.proofs.lemmas.Bool.{ltb-true, lt-ltb, le-ltb, le-leb, lt-leb, eq-eqb, ne_eqb}
@@ -8,12 +8,6 @@ use Rattle.machine.specs.Answers.{Bytes, Refusal, no_object, too_long, no_domain
 use Rattle.machine.specs.Calls.{Call, object, act, handed, room, wish}
 use Rattle.machine.specs.State.{Seat, put}
 use Rattle.machine.specs.Checks.{unless, denial, first_of, wish_is_domain, wish_may_pass, refusal}
-
-pub zero_is_one : ◌≡◌ {A = ℕ} 0 1 → ⊥
-zero_is_one e = omega arith
-
-pub some_is_none : {A : Type 0} {a : A} → ◌≡◌ {A = Option A} (Some a) None → ⊥
-some_is_none e = zero_is_one (cc)
 
 pub eqb_self : (n : ℕ) → eqb n n ≡ true
 eqb_self n = eq-eqb n n refl
@@ -25,8 +19,8 @@ cond_same false x = refl
 -- whether two places hold the same is decided
 pub place_discrete : Discrete (Option Bytes)
 place_discrete None None = yes refl
-place_discrete None (Some y) = no (λ e. some_is_none (sym e))
-place_discrete (Some x) None = no some_is_none
+place_discrete None (Some y) = no (λ e. cc)
+place_discrete (Some x) None = no (λ e. cc)
 place_discrete (Some x) (Some y) =
     elim (List-discrete ℕ_discrete x y) [ yes e ↦ yes (ap Some e) | no h ↦ no (λ e. h (cc)) ]
 
@@ -49,20 +43,20 @@ put_other seats s new k h = ap (λ (b : Bool). cond b new (seats k)) (ne_eqb k s
 first_passed : (b : Bool) (r : Refusal) (checks : List (Option Refusal)) → first_of (unless b r ∷ checks) ≡ None →
     (b ≡ true) × (first_of checks ≡ None)
 first_passed true r checks e = (refl, e)
-first_passed false r checks e = absurd (some_is_none e)
+first_passed false r checks e = cc
 
 first_granted : (v : Result (Unit {0}) (ℕ × ℕ)) (checks : List (Option Refusal)) → first_of (denial v ∷ checks) ≡ None →
     (is_ok v ≡ true) × (first_of checks ≡ None)
 first_granted (Ok x) checks e = (refl, e)
-first_granted (Err x) checks e = absurd (some_is_none e)
+first_granted (Err x) checks e = cc
 
 pass_first : (b : Bool) (r : Refusal) (checks : List (Option Refusal)) → b ≡ true → first_of (unless b r ∷ checks) ≡ first_of checks
 pass_first true r checks e = refl
-pass_first false r checks e = absurd (true≢false (sym e))
+pass_first false r checks e = cc
 
 grant_first : (v : Result (Unit {0}) (ℕ × ℕ)) (checks : List (Option Refusal)) → is_ok v ≡ true → first_of (denial v ∷ checks) ≡ first_of checks
 grant_first (Ok x) checks e = refl
-grant_first (Err x) checks e = absurd (true≢false (sym e))
+grant_first (Err x) checks e = cc
 
 -- what a call that is admitted has passed
 pub record Admitted (P : Policy) (d : ℕ) (c : Call) : Type 0 where
@@ -96,7 +90,7 @@ admit P d c a b w f g h =
 -- ── The first check that fails, for whoever makes them one by one ──
 
 fail_first : (b : Bool) (r : Refusal) (checks : List (Option Refusal)) → b ≡ false → first_of (unless b r ∷ checks) ≡ Some r
-fail_first true r checks e = absurd (true≢false e)
+fail_first true r checks e = cc
 fail_first false r checks e = refl
 
 deny_first : (v : Result (Unit {0}) (ℕ × ℕ)) (pair : ℕ × ℕ) (checks : List (Option Refusal)) → v ≡ Err pair →

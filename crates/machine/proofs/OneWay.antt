@@ -4,7 +4,6 @@ use Rattle.std.proofs.lemmas.Bool.{eqb-true, true≢false}
 use Rattle.machine.specs.Flow.{Node, obj, Link, learns, passes, alters, Walk, here, on, NoChain, of_type}
 use Rattle.machine.specs.Leak.{drive, carried}
 use Rattle.machine.specs.Valve.{only_if, valve, through, OneWay}
-use Rattle.machine.proofs.Checks.{zero_is_one}
 use Rattle.machine.proofs.Sound.{no_chain_separates}
 use Rattle.machine.proofs.Bearer.{separated_has_no_chain}
 
@@ -17,8 +16,8 @@ nobody_reads_one (learns {o = o} L lt q) e =
     let z : o ≡ 0 = eqb-true o 0 (granted_only_if (eqb o 0) 114 q) in
     let y : o ≡ 1 = cc in
     omega arith
-nobody_reads_one (passes o L q) e = zero_is_one (cc)
-nobody_reads_one (alters how L lt q) e = zero_is_one (cc)
+nobody_reads_one (passes o L q) e = cc
+nobody_reads_one (alters how L lt q) e = cc
 
 one_leads_nowhere : {n : ℕ} {b : Node} → Walk valve (obj 1) n b → b ≡ obj 1
 one_leads_nowhere here = refl
@@ -29,7 +28,7 @@ not_back n c =
     let f : c.from ≡ 1 = eqb-true c.from 1 c.from_in in
     let t : c.to ≡ 0 = eqb-true c.to 0 c.to_in in
     let e : obj c.to ≡ obj 1 = one_leads_nowhere (subst (λ (x : ℕ). Walk valve (obj x) n (obj c.to)) f c.walk) in
-    zero_is_one (cc)
+    cc
 
 pub one_way : OneWay
 unfolding drive carried

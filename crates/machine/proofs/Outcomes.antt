@@ -12,7 +12,7 @@ use Rattle.machine.specs.Machine.{outcome, call_at, call, fresh, start_seat}
 use Rattle.machine.specs.Series.{Rule, Entry, Series, step}
 use Rattle.machine.specs.Places.{step_on, after_on, told_on, Served, Unserved}
 use Rattle.machine.specs.Laws.{noted, OnlyNoted, TouchesOnly, StartsOne}
-use Rattle.machine.proofs.Checks.{zero_is_one, cond_same, put_same, put_other}
+use Rattle.machine.proofs.Checks.{cond_same, put_same, put_other}
 
 -- a call is of no seat, of an idle one, or of one in a domain
 pub call_cases : (P : Policy) (st : State) (s : ℕ) (c : Call) (Q : Answer × State → Type 0) →
@@ -67,20 +67,17 @@ start_touches P st s = by (ltb s 16) refl
 -- ── Refusals ──
 
 -- an admitted call that is refused found its object absent: it was a read or a run
-taken_is_refused : {r : Refusal} → taken ≡ refused r → ⊥
-taken_is_refused e = zero_is_one (cc)
-
 absent_keeps : (P : Policy) (m : Contents) (d : ℕ) (v : Option Bytes) (c : Call) (r : Refusal) → reply P d v c ≡ refused r → (o : ℕ) → changed m c o ≡ m o
 absent_keeps P m d v (read i n) r e o = cond_same (eqb o i) (m o)
-absent_keeps P m d v (write i bytes) r e o = absurd (taken_is_refused e)
-absent_keeps P m d v (append i bytes) r e o = absurd (taken_is_refused e)
-absent_keeps P m d v (create i) r e o = absurd (taken_is_refused e)
-absent_keeps P m d v (remove i) r e o = absurd (taken_is_refused e)
+absent_keeps P m d v (write i bytes) r e o = cc
+absent_keeps P m d v (append i bytes) r e o = cc
+absent_keeps P m d v (create i) r e o = cc
+absent_keeps P m d v (remove i) r e o = cc
 absent_keeps P m d v (run i w n) r e o = cond_same (eqb o i) (m o)
 
 absent_stays : (d t : ℕ) (v : Option Bytes) (r : Refusal) → reply_run t v ≡ refused r → if_present d t v ≡ d
 absent_stays d t None r e = refl
-absent_stays d t (Some b) r e = absurd (zero_is_one (cc))
+absent_stays d t (Some b) r e = cc
 
 refused_stays : (P : Policy) (d : ℕ) (v : Option Bytes) (c : Call) (r : Refusal) → reply P d v c ≡ refused r → moved P d v c ≡ d
 refused_stays P d v (read i n) r e = refl

@@ -1,5 +1,5 @@
 -- What holds after every series: seats in live domains, and possible contents.
-use Rattle.std.proofs.Common.{◌≡◌, ℕ, ◌≤◌, true, false, cond, eqb, ltb, List, [], ◌∷◌, ◌++◌, length, Some, None, Option, sym, refl, subst, arith, length-take}
+use Rattle.std.proofs.Common.{◌≡◌, ℕ, ◌≤◌, true, false, cond, eqb, ltb, List, [], ◌∷◌, ◌++◌, length, Some, None, Option, refl, subst, arith, length-take}
 use Rattle.std.proofs.lemmas.Bool.{leb-true}
 use Rattle.std.proofs.ByRecursion.{All-take, All-append}
 use Rattle.machine.specs.Policy.{Policy}
@@ -12,7 +12,7 @@ use Rattle.machine.specs.Machine.{outcome, fresh, start_seat}
 use Rattle.machine.specs.Series.{Rule, Entry, start, turn, Series, step, after}
 use Rattle.machine.specs.Possible.{Byte, PossiblePlace, Possible, PossibleCall, PossibleEntry, PossibleSeries}
 use Rattle.machine.specs.Flow.{Live}
-use Rattle.machine.proofs.Checks.{some_is_none, admitted}
+use Rattle.machine.proofs.Checks.{admitted}
 use Rattle.machine.proofs.Sound.{LiveSeat, step_live}
 use Rattle.machine.proofs.Outcomes.{call_cases}
 
@@ -21,7 +21,7 @@ series_live P [] st all = all
 series_live P (e ∷ es) st all = series_live P es (step P st e).1 (step_live P st e all)
 
 live_domain : (P : Policy) (x : Seat) (d : ℕ) → domain x ≡ Some d → LiveSeat P x → Live P d
-live_domain P idle d q L = absurd (some_is_none (sym q))
+live_domain P idle d q L = cc
 live_domain P (seated e l) d q L = let p : e ≡ d = cc in subst (Live P) p L
 
 pub seats_stay_live : (P : Policy) (m : Contents) (es : Series) (k d : ℕ) → domain ((after P (loaded m) es).seats k) ≡ Some d → Live P d

@@ -1,6 +1,7 @@
 -- A call and a start as a controller carries them out: each way that its checks can go.
 use Rattle.std.proofs.Common.{◌≡◌, ℕ, ◌<◌, ◌≤◌, Bool, true, false, cond, eqb, ◌≢◌, List, [], Some, None, Option, sym, refl, ap, ◌∙◌, subst, arith}
 use Rattle.std.proofs.lemmas.Bool.{lt-ltb, le-ltb, eqb-true, eqb-false}
+use Rattle.std.proofs.lemmas.Option.{none-some}
 use Rattle.machine.specs.Policy.{Policy}
 use Rattle.machine.specs.Answers.{Bytes, Answer, taken, refused, Refusal, no_seat, seat_idle, few_places}
 use Rattle.machine.specs.Calls.{Call, object}
@@ -10,7 +11,6 @@ use Rattle.machine.specs.Effects.{change, changed, reply, moved}
 use Rattle.machine.specs.Machine.{outcome, call, fresh, start_seat}
 use Rattle.machine.specs.Places.{call_on}
 use Rattle.machine.specs.Shown.{Shows, ComesTo, CallsAs, StartsAs}
-use Rattle.machine.proofs.Checks.{some_is_none}
 use Rattle.machine.proofs.Outcomes.{call_cases}
 
 -- the seat s is in the domain e, and every other seat as before
@@ -56,14 +56,14 @@ module _ (P : Policy) (places : ℕ) (m : Contents) (ds : ℕ → Option ℕ) (s
       calls_idle c none st h =
           placed c (refused seat_idle) m ds st
           (call_cases P st s c (λ x. ComesTo x (refused seat_idle) m ds) (λ high. absurd (omega arith)) (λ lt q. record { answer_is = refl; shows = h })
-          (λ d l lt q. absurd (some_is_none (sym (ap domain q) ∙ h.domains_are s ∙ none))))
+          (λ d l lt q. absurd (none-some d (sym none ∙ sym (h.domains_are s) ∙ ap domain q))))
 
       -- the seat is in d: what holds of every list holds of the call
       seated_call : (c : Call) (d : ℕ) (a : Answer) (m' : Contents) (ds' : ℕ → Option ℕ) (st : State) → Shows st m ds → ds s ≡ Some d →
           ((l : List Answer) → ComesTo (outcome P st s d l c (refusal P d c)) a m' ds') → ComesTo (call P st s c) a m' ds'
       seated_call c d a m' ds' st h at f =
           call_cases P st s c (λ x. ComesTo x a m' ds') (λ high. absurd (omega arith))
-          (λ lt q. absurd (some_is_none (sym at ∙ sym (h.domains_are s) ∙ ap domain q)))
+          (λ lt q. absurd (none-some d (sym (ap domain q) ∙ h.domains_are s ∙ at)))
           (λ e l lt q.
           let p : Some e ≡ Some d = sym (ap domain q) ∙ h.domains_are s ∙ at in
           let z : d ≡ e = cc in

@@ -1,5 +1,5 @@
 -- What an answer may depend on: the seat's domain and what the call's object holds.
-use Rattle.std.proofs.Common.{◌≡◌, ℕ, Bool, true, false, cond, eqb, ltb, ◌≢◌, List, Some, None, Option, sym, refl, ap, ◌∙◌, subst, true≢false}
+use Rattle.std.proofs.Common.{◌≡◌, ℕ, Bool, true, false, cond, eqb, ltb, ◌≢◌, List, Some, None, Option, sym, refl, ap, ◌∙◌, subst}
 use Rattle.machine.specs.Policy.{Policy}
 use Rattle.machine.specs.Answers.{Bytes, Answer, refused, Refusal, no_seat, seat_idle, absent}
 use Rattle.machine.specs.Calls.{Call, read, write, append, create, remove, run, object}
@@ -8,7 +8,6 @@ use Rattle.machine.specs.Checks.{refusal}
 use Rattle.machine.specs.Effects.{change, target, reply_read, reply_run, reply, moved}
 use Rattle.machine.specs.Machine.{outcome, call_at, call}
 use Rattle.machine.specs.Laws.{changing, with_contents, SameButLists, ListsUnseen}
-use Rattle.machine.proofs.Checks.{zero_is_one, some_is_none}
 
 -- the answer without the state: from the seat's domain, if it runs, and what the object holds
 abbrev by_refusal : Policy → ℕ → Option Bytes → Call → Option Refusal → Answer
@@ -43,12 +42,12 @@ answer_depends P st st' s c p q =
 -- ── Calls that tell nothing ──
 
 reply_tells_nothing : (P : Policy) (d : ℕ) (v w : Option Bytes) (c : Call) → changing c ≡ true → reply P d v c ≡ reply P d w c
-reply_tells_nothing P d v w (read o n) e = absurd (true≢false (sym e))
+reply_tells_nothing P d v w (read o n) e = cc
 reply_tells_nothing P d v w (write o bytes) e = refl
 reply_tells_nothing P d v w (append o bytes) e = refl
 reply_tells_nothing P d v w (create o) e = refl
 reply_tells_nothing P d v w (remove o) e = refl
-reply_tells_nothing P d v w (run o wish n) e = absurd (true≢false (sym e))
+reply_tells_nothing P d v w (run o wish n) e = cc
 
 refusal_tells_nothing : (P : Policy) (d : ℕ) (v w : Option Bytes) (c : Call) (a : Option Refusal) → changing c ≡ true → by_refusal P d v c a ≡ by_refusal P d w c a
 refusal_tells_nothing P d v w c (Some r) e = refl
@@ -69,18 +68,18 @@ changing_tells_nothing P st m s c e =
 
 read_refuses_absent : (v : Option Bytes) (r : Refusal) → reply_read v ≡ refused r → r ≡ absent
 read_refuses_absent None r e = cc
-read_refuses_absent (Some b) r e = absurd (zero_is_one (cc))
+read_refuses_absent (Some b) r e = cc
 
 run_refuses_absent : (d : ℕ) (v : Option Bytes) (r : Refusal) → reply_run d v ≡ refused r → r ≡ absent
 run_refuses_absent d None r e = cc
-run_refuses_absent d (Some b) r e = absurd (zero_is_one (cc))
+run_refuses_absent d (Some b) r e = cc
 
 reply_refuses_absent : (P : Policy) (d : ℕ) (v : Option Bytes) (c : Call) (r : Refusal) → reply P d v c ≡ refused r → r ≡ absent
 reply_refuses_absent P d v (read o n) r e = read_refuses_absent v r e
-reply_refuses_absent P d v (write o bytes) r e = absurd (zero_is_one (cc))
-reply_refuses_absent P d v (append o bytes) r e = absurd (zero_is_one (cc))
-reply_refuses_absent P d v (create o) r e = absurd (zero_is_one (cc))
-reply_refuses_absent P d v (remove o) r e = absurd (zero_is_one (cc))
+reply_refuses_absent P d v (write o bytes) r e = cc
+reply_refuses_absent P d v (append o bytes) r e = cc
+reply_refuses_absent P d v (create o) r e = cc
+reply_refuses_absent P d v (remove o) r e = cc
 reply_refuses_absent P d v (run o w n) r e = run_refuses_absent (target P d o w) v r e
 
 refusal_unlooked : (P : Policy) (d : ℕ) (v w : Option Bytes) (c : Call) (a : Option Refusal) (r : Refusal) → r ≢ absent → by_refusal P d v c a ≡ refused r → by_refusal P d w c a ≡ refused r
@@ -126,8 +125,8 @@ same_call_at : (P : Policy) (st st' : State) (s : ℕ) (c : Call) (x y : Seat) �
     SameButLists (call_at P st s c x).1 (call_at P st' s c y).1
 unfolding call_at
 same_call_at P st st' s c idle idle q h = h
-same_call_at P st st' s c idle (seated d l) q h = absurd (some_is_none (sym q))
-same_call_at P st st' s c (seated d l) idle q h = absurd (some_is_none q)
+same_call_at P st st' s c idle (seated d l) q h = cc
+same_call_at P st st' s c (seated d l) idle q h = cc
 same_call_at P st st' s c (seated d l) (seated e m) q h =
     let p : d ≡ e = cc in
     subst (λ (x : ℕ). SameButLists (outcome P st s d l c (refusal P d c)).1 (outcome P st' s x m c (refusal P x c)).1) p

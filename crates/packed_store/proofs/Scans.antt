@@ -2,49 +2,14 @@
 use Rattle.std.proofs.Common.{◌≡◌, ℕ, suc, ◌+◌, ◌-◌, ◌/◌, ◌<◌, ◌≤◌, min, true, eqb, List, [], ◌∷◌, ◌++◌, length, get_or, take, drop, set, replicate, Some, None, Option, sym, refl, ap, ◌∙◌, add-zero, add-one, arith, lit≤, length-append, length-drop, length-set, length-take, drop-cons, take-suc, take-take, drop-drop, take-add}
 use Rattle.std.proofs.Math.Seq.{set_split, paste, length-paste, drop-set-add, take-set-le, take-append-le}
 use Rattle.std.proofs.lemmas.List.{append-nil, append_assoc, take-append-drop, drop_at, take_all, drop_all, length-take-le, set-append_right, drop_more, take_more_set, drop-set-lt}
-use Rattle.std.proofs.lemmas.Bool.{eq-eqb, ne_eqb, le-leb, lt-leb, cond-true, cond-false, cond_both}
 use Rattle.std.proofs.lemmas.Slice.{between_is}
 use borrow.Rule.Slice.PartMut.{put_mid}
 use Rattle.store.specs.Meaning.{Short}
 use Rattle.packed_store.specs.Layout.{packed_places, Table, AllShort, coded, encode, ended, Holds}
 use Rattle.packed_store.specs.Reading.{record_at, decode, table, intact, packed_contents}
-use Rattle.packed_store.specs.ReadingLaws.{length-table}
+use Rattle.packed_store.specs.ReadingLaws.{record_in_front, table_short, length-table}
 use Rattle.packed_store.specs.Scan.{Found, Stands, Opened}
-use Rattle.packed_store.proofs.Tables.{record_in_front, record_within, encode-append, length-encode, table_short, set_short, marked_is_ended}
-
-few_bytes : (p : ℕ) (ys : List ℕ) → length ys < 2 → record_at p ys ≡ None
-few_bytes p [] h = refl
-few_bytes p (q ∷ []) h = refl
-few_bytes p (q ∷ len ∷ ys) h = absurd (omega arith)
-
--- What the bytes from i on say of the place p.
-module _ (xs : List ℕ) (i p : ℕ) where
-  pub no_room : length xs - i < 2 → record_at p (drop i xs) ≡ None
-  no_room h = few_bytes p (drop i xs) (rw length-drop h)
-
-  two_bytes : i + 2 ≤ length xs → drop i xs ≡ get_or xs i 0 ∷ get_or xs (i + 1) 0 ∷ drop (i + 2) xs
-  two_bytes h =
-      drop_more xs i 0 (omega arith) ∙ ap (λ u. get_or xs i 0 ∷ u) (drop_more xs (i + 1) 0 (omega arith) ∙ ap (λ k. get_or xs (i + 1) 0 ∷ drop k xs) (omega arith))
-
-  pub other_place : i + 2 ≤ length xs → (get_or xs i 0 ≡ p → ⊥) → record_at p (drop i xs) ≡ None
-  other_place h ne = ap (record_at p) (two_bytes h) ∙ cond-false _ _ _ (ne_eqb _ _ ne)
-
-  pub too_long : i + 2 ≤ length xs → min (length xs - i - 2) 64 < get_or xs (i + 1) 0 → record_at p (drop i xs) ≡ None
-  too_long h lt =
-      ap (record_at p) (two_bytes h)
-      ∙ cond_both (eqb (get_or xs i 0) p) _ _ (λ o. o ≡ None)
-      (λ _. cond-false _ _ _ (lt-leb (get_or xs (i + 1) 0) (min 64 (length (drop (i + 2) xs))) (simp length-drop (omega arith))))
-      (λ _. refl)
-
-  pub record_found : i + 2 ≤ length xs → get_or xs i 0 ≡ p → get_or xs (i + 1) 0 ≤ min (length xs - i - 2) 64 → Found xs i p (get_or xs (i + 1) 0)
-  record_found h is le =
-      record {
-        is =
-            ap (record_at p) (two_bytes h) ∙ cond-true _ _ _ (eq-eqb _ _ is)
-            ∙ cond-true _ _ _ (le-leb (get_or xs (i + 1) 0) (min 64 (length (drop (i + 2) xs))) (simp length-drop (omega arith)));
-        within = omega arith;
-        short = omega arith;
-      }
+use Rattle.packed_store.proofs.Tables.{record_within, encode-append, length-encode, set_short, marked_is_ended}
 
 pub scan_starts : (xs : List ℕ) → Stands xs 0 0
 unfolding table

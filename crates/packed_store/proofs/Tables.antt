@@ -1,31 +1,14 @@
 -- Tables and the bytes that hold them.
-use Rattle.std.proofs.Common.{◌≡◌, ℕ, zero, suc, ◌+◌, ◌*◌, ◌<◌, ◌≤◌, min, Bool, true, false, eqb, leb, List, [], ◌∷◌, ◌++◌, length, get_or, take, drop, set, replicate, Some, None, Option, sym, refl, ap, ◌∙◌, ⊎_elim, add-zero, add-suc, suc-add, arith, length-append, length-set, length-take, get_or-set_other, get_or-set_same, take-add}
+use Rattle.std.proofs.Common.{◌≡◌, ℕ, zero, suc, ◌+◌, ◌*◌, ◌<◌, ◌≤◌, min, Bool, true, false, eqb, MatchBool, List, [], ◌∷◌, ◌++◌, length, get_or, drop, set, replicate, Some, None, Option, sym, refl, ap, ◌∙◌, ⊎_elim, add-zero, add-suc, suc-add, arith, length-append, length-take, get_or-set_other, get_or-set_same}
 use Rattle.std.proofs.Math.Path.{fun_ext}
-use Rattle.std.proofs.lemmas.List.{append_assoc, take-append-drop, take_at, drop_at, get_or_past, get_or-take, get_or-drop, length-take-le, length-replicate}
-use Rattle.std.proofs.lemmas.Bool.{cases_eq, eq-eqb, ne_eqb, eqb-true, cases_lt, lt-ltb, le-leb, leb-true, cond-true, cond-false, cond_both}
+use Rattle.std.proofs.lemmas.List.{append_assoc, take_at, drop_at, length-replicate}
+use Rattle.std.proofs.lemmas.Bool.{cases_eq, eq-eqb, ne_eqb, eqb-true, le-leb, cond-true, cond-false}
 use Rattle.std.specs.Map.{update}
 use Rattle.std.proofs.lemmas.Map.{update_here, update_apart}
-use Rattle.store.specs.Meaning.{Short, Octets, byte_at, AllOctets, all_absent}
-use Rattle.store.specs.Answers.{put_contents, clear_contents}
-use Rattle.store.proofs.Octets.{put_octets, clear_octets}
+use Rattle.store.specs.Meaning.{Short, all_absent}
 use Rattle.packed_store.specs.Layout.{packed_places, Table, AllShort, coded, encode, ended, Holds}
 use Rattle.packed_store.specs.Reading.{record_at, decode, table, intact, packed_contents}
-use Rattle.packed_store.specs.ReadingLaws.{record_short, length-table}
-
--- A record that is read begins the bytes.
-pub record_in_front : (p : ℕ) (ys : List ℕ) → take (length (coded p (record_at p ys))) ys ≡ coded p (record_at p ys)
-record_in_front p [] = refl
-record_in_front p (q ∷ []) = refl
-record_in_front p (q ∷ len ∷ ys) =
-    let P : Option (List ℕ) → Type 0 = λ o. take (length (coded p o)) (q ∷ len ∷ ys) ≡ coded p o in
-    cond_both (eqb q p) _ _ P
-    (λ is. cond_both (leb len (min 64 (length ys))) _ _ P
-    (λ fits.
-    let h = leb-true _ _ fits in
-    let n : length (take len ys) ≡ len = length-take-le len ys (omega arith) in
-    rw n (ap (λ x. x ∷ len ∷ take len ys) (eqb-true q p is)))
-    (λ _. refl))
-    (λ _. refl)
+use Rattle.packed_store.specs.ReadingLaws.{record_in_front, length-table}
 
 pub record_within : (p : ℕ) (ys : List ℕ) → length (coded p (record_at p ys)) ≤ length ys
 record_within p ys = let h = ap length (record_in_front p ys) in omega (arith, simp length-take at h)
@@ -77,44 +60,10 @@ pub length-encode : (t : Table) (p : ℕ) → AllShort t → length (encode p t)
 length-encode [] p s = omega arith
 length-encode (o ∷ t) p s = rw length-append (omega (arith, length-coded p o s.0, length-encode t (suc p) s.1))
 
-decode_all_short : (m p : ℕ) (ys : List ℕ) → AllShort (decode m p ys)
-decode_all_short zero p ys = tt
-decode_all_short (suc m) p ys = (record_short p ys, decode_all_short m (suc p) _)
-
-pub table_short : (xs : List ℕ) → AllShort (table xs)
-unfolding table
-table_short xs = decode_all_short (packed_places xs) 0 xs
-
 pub set_short : (t : Table) (k : ℕ) (o : Option (List ℕ)) → AllShort t → Short o → AllShort (set t k o)
 set_short [] k o s h = tt
 set_short (x ∷ t) zero o s h = (h, s.1)
 set_short (x ∷ t) (suc k) o s h = (s.0, set_short t k o s.1 h)
-
--- The memory begins with the records that are read from it.
-decoded_in_front : (m p : ℕ) (ys : List ℕ) → take (length (encode p (decode m p ys))) ys ≡ encode p (decode m p ys)
-decoded_in_front zero p ys = refl
-decoded_in_front (suc m) p ys =
-    let c = coded p (record_at p ys) in
-    let r = encode (suc p) (decode m (suc p) (drop (length (coded p (record_at p ys))) ys)) in
-    ap (λ n. take n ys) (length-append c r) ∙ take-add (length c) (length r) ys
-    ∙ ap (λ u. u ++ take (length r) (drop (length c) ys)) (record_in_front p ys) ∙ ap (λ u. c ++ u) (decoded_in_front m (suc p) (drop (length c) ys))
-
-table_in_front : (xs : List ℕ) → take (length (encode 0 (table xs))) xs ≡ encode 0 (table xs)
-unfolding table
-table_in_front xs = decoded_in_front (packed_places xs) 0 xs
-
--- A memory holds a table exactly if it is intact, and then the one that is read.
-pub intact_holds : (xs : List ℕ) → intact xs ≡ true → Holds xs (table xs)
-unfolding intact
-intact_holds xs ok =
-    let n = length (encode 0 (table xs)) in
-    record {
-      places = length-table xs;
-      short = table_short xs;
-      unused = drop n xs;
-      records = sym (take-append-drop n xs) ∙ ap (λ u. u ++ drop n xs) (table_in_front xs);
-      end = ok;
-    }
 
 pub held_is_read : (xs : List ℕ) (t : Table) → Holds xs t → table xs ≡ t
 unfolding table
@@ -135,37 +84,20 @@ pub held_at_place : (xs : List ℕ) (t : Table) → Holds xs t → (k : ℕ) →
 unfolding packed_contents
 held_at_place xs t h k = ap (λ u. get_or u k None) (held_is_read xs t h)
 
--- What a memory holds after a write of one entry. zs is the list that the store then has.
-module _ (xs r ys zs : List ℕ) (at : ℕ) (o : Option (List ℕ)) (p : r ≡ xs) (q : zs ≡ ys) (h : Holds ys (set (table r) at o)) (lt : at < packed_places xs) where
-  Holds-set : Holds zs (set (table xs) at o)
-  Holds-set = rw (← p, q) h
-
+-- What a memory holds after a write of one entry.
+module _ (xs zs : List ℕ) (at : ℕ) (o : Option (List ℕ)) (h : Holds zs (set (table xs) at o)) where
   pub set_is_intact : intact zs ≡ true
-  set_is_intact = held_is_intact zs _ Holds-set
+  set_is_intact = held_is_intact zs _ h
 
-  pub set_is_held : packed_contents zs ≡ update eqb (packed_contents xs) at o
+  pub set_is_held : at < packed_places xs → packed_contents zs ≡ update eqb (packed_contents xs) at o
   unfolding packed_contents
-  set_is_held =
-      let e = held_is_read zs _ Holds-set in
+  set_is_held lt =
+      let e = held_is_read zs _ h in
       let here : at < length (table xs) = rw length-table lt in
       fun_ext (λ k. ap (λ t. get_or t k None) e ∙ ⊎_elim
       (λ same. rw same (get_or-set_same (table xs) at o None here ∙ sym (update_here (packed_contents xs) at o)))
       (λ ne. get_or-set_other (table xs) at k o None ne ∙ sym (update_apart (packed_contents xs) at o k ne))
       (cases_eq k at))
-
-module _ (xs r ys zs : List ℕ) (at : ℕ) (b : List ℕ) (p : r ≡ xs) (q : zs ≡ ys) (h : Holds ys (set (table r) at (Some b))) (lt : at < packed_places xs) (le : length b ≤ 64) where
-  pub put_is_held : packed_contents zs ≡ put_contents (packed_places xs) (packed_contents xs) at b
-  put_is_held = set_is_held xs r ys zs at (Some b) p q h lt ∙ sym (cond-true _ _ _ (lt-ltb _ _ lt) ∙ cond-true _ _ _ (le-leb _ _ le))
-
-  pub put_stays_octets : AllOctets (packed_contents xs) → Octets b → AllOctets (packed_contents zs)
-  put_stays_octets all new = rw put_is_held (put_octets (packed_places xs) (packed_contents xs) at b all new)
-
-module _ (xs r ys zs : List ℕ) (at : ℕ) (p : r ≡ xs) (q : zs ≡ ys) (h : Holds ys (set (table r) at None)) (lt : at < packed_places xs) where
-  pub clear_is_held : packed_contents zs ≡ clear_contents (packed_places xs) (packed_contents xs) at
-  clear_is_held = set_is_held xs r ys zs at None p q h lt ∙ sym (cond-true _ _ _ (lt-ltb _ _ lt))
-
-  pub clear_stays_octets : AllOctets (packed_contents xs) → AllOctets (packed_contents zs)
-  clear_stays_octets all = rw clear_is_held (clear_octets (packed_places xs) (packed_contents xs) at all)
 
 -- A memory that begins with the end holds nothing.
 encode-none : (n p : ℕ) → encode p (replicate n None) ≡ []
@@ -185,9 +117,6 @@ pub marked_is_ended : (xs : List ℕ) → ended (set xs 0 255) ≡ true
 marked_is_ended [] = refl
 marked_is_ended (x ∷ xs) = refl
 
-pub ended_at_front : (r xs ys zs : List ℕ) (i : ℕ) → r ≡ xs → zs ≡ ys → ys ≡ set r i 255 → i ≡ 0 → zs ≡ set xs 0 255
-ended_at_front r xs ys zs i p q e z = q ∙ e ∙ rw (p, z) refl
-
 module _ (xs zs : List ℕ) (e : zs ≡ set xs 0 255) where
   fresh_holds : Holds zs (replicate (packed_places zs) None)
   fresh_holds = record {
@@ -205,48 +134,9 @@ module _ (xs zs : List ℕ) (e : zs ≡ set xs 0 255) where
   unfolding packed_contents
   fresh_is_absent = fun_ext (λ k. ap (λ t. get_or t k None) (held_is_read zs _ fresh_holds) ∙ none_there (packed_places zs) k)
 
-  pub fresh_is_octets : AllOctets (packed_contents zs)
-  fresh_is_octets k j = rw fresh_is_absent (omega arith)
-
-  pub fresh_is_as_long : length zs ≡ length xs
-  fresh_is_as_long = ap length e ∙ length-set xs 0 255
-
--- What bytes hold are bytes.
-take_octets : (xs : List ℕ) (n : ℕ) → Octets xs → Octets (take n xs)
-take_octets xs n all j =
-    let within : j < n → get_or (take n xs) j 0 < 256 = λ lt. rw get_or-take (all j) in
-    let past : n ≤ j → get_or (take n xs) j 0 < 256 =
-    λ ge. let none : get_or (take n xs) j 0 ≡ 0 = get_or_past (take n xs) j 0 (simp length-take (omega arith)) in omega arith in
-    ⊎_elim within past (cases_lt j n)
-
-Octets-drop : (xs : List ℕ) (n : ℕ) → Octets xs → Octets (drop n xs)
-Octets-drop xs n all j = rw get_or-drop (all (n + j))
-
-record_octets : (p : ℕ) (ys : List ℕ) → Octets ys → (j : ℕ) → byte_at (record_at p ys) j < 256
-record_octets p [] all j = omega arith
-record_octets p (q ∷ []) all j = omega arith
-record_octets p (q ∷ len ∷ ys) all j =
-    let P : Option (List ℕ) → Type 0 = λ o. byte_at o j < 256 in
-    cond_both (eqb q p) _ _ P
-    (λ _. cond_both (leb len (min 64 (length ys))) _ _ P (λ _. take_octets ys len (λ i. all (suc (suc i))) j) (λ _. omega arith))
-    (λ _. omega arith)
-
-decode_octets : (m p : ℕ) (ys : List ℕ) → Octets ys → (k j : ℕ) → byte_at (get_or (decode m p ys) k None) j < 256
-decode_octets zero p ys all k j = omega arith
-decode_octets (suc m) p ys all zero j = record_octets p ys all j
-decode_octets (suc m) p ys all (suc k) j = decode_octets m (suc p) _ (Octets-drop ys _ all) k j
-
-pub opened_is_octets : (r xs : List ℕ) → r ≡ xs → Octets r → AllOctets (packed_contents xs)
-unfolding packed_contents table
-opened_is_octets r xs e all = rw (← e) (decode_octets (packed_places r) 0 r all)
-
 -- What a test of the memory tells: b is its result.
-module _ (b : Bool) (r xs : List ℕ) (e : r ≡ xs) (is : b ≡ intact r) where
-  pub opened_is_intact : b ≡ true → intact xs ≡ true
-  opened_is_intact yes-b = rw (← e) (sym is ∙ yes-b)
-
-  pub damaged_holds_none : b ≡ false → (t : Table) → Holds xs t → ⊥
-  damaged_holds_none no-b t h =
-      let ok = held_is_intact xs t h in
-      let same : intact r ≡ intact xs = ap intact e in
-      let z : ◌≡◌ {A = ℕ} 0 1 = cc in omega arith
+pub test_is_exact : (b : Bool) (xs : List ℕ) → b ≡ intact xs → MatchBool b (intact xs ≡ true) ((t : Table) → Holds xs t → ⊥)
+test_is_exact true xs is = sym is
+test_is_exact false xs is = λ t h.
+    let ok = held_is_intact xs t h in
+    let z : ◌≡◌ {A = ℕ} 0 1 = cc in omega arith

@@ -1,13 +1,15 @@
 // Records in a memory.
-ghost use Rattle.std.specs.Prelude.{◌≡◌, ℕ, ◌+◌, ◌<◌, ◌≤◌, length, drop, Some, None, MatchOption, slice_set};
-ghost use Rattle.std.specs.Option.{option_map};
-ghost use Rattle.store.specs.Answers.{laid};
-ghost use Rattle.store.specs.Meaning.{Octets};
-ghost use Rattle.packed_store.specs.Layout.{packed_places, Holds};
+ghost use Rattle.std.specs.Prelude.{◌≡◌, ℕ, ◌+◌, ◌<◌, ◌≤◌, true, length, drop, None, MatchOption, slice_set};
+ghost use Rattle.std.proofs.Common.{lit≤};
+ghost use Rattle.std.proofs.Props.{props};
+ghost use Rattle.store.specs.Memory.{places_in};
+ghost use Rattle.packed_store.specs.Layout.{packed_places, Table, Holds};
 ghost use Rattle.packed_store.specs.Reading.{record_at, table, intact, packed_contents};
+ghost use Rattle.packed_store.specs.ReadingLaws.{contents_short, contents_octets, beyond_absent, intact_holds};
 ghost use Rattle.packed_store.specs.Scan.{Found, Stands, Opened};
 
-use store::{LONGEST, MOST_PLACES};
+use store::LONGEST;
+use store::memory::{Layout, place_count};
 
 // The bytes that are counted for a place: its number, its length and the most that it can hold.
 const RECORD: usize = 66;
@@ -15,10 +17,61 @@ const RECORD: usize = 66;
 // Stands behind the last record, unless that ends the memory. It is no place's number.
 const END: u8 = 255;
 
-pub(super) fn place_count(all: &[u8]) -> usize
-    ensures { result ≡ packed_places all.now }
-{
-    (all.len() / RECORD).min(MOST_PLACES)
+/// A record for each present place: its number, its length and its bytes. Memory that holds no table's records is no store's.
+pub struct Records;
+
+impl Layout for Records {
+    const PLACE: u8 = RECORD as u8;
+
+    ghost PLACE = { 66 };
+
+    ghost contents = { packed_contents };
+
+    ghost Sound = { λ xs. intact xs ≡ true };
+
+    ghost Foreign = { λ xs. (t : Table) → Holds xs t → ⊥ };
+
+    ghost Exact = { λ xs. Holds xs (table xs) };
+
+    ghost fact = { λ xs. Prim.hlevel props };
+
+    ghost some = { lit≤ tt };
+
+    ghost short = { λ xs ok k. contents_short xs k };
+
+    ghost octets = { contents_octets };
+
+    ghost beyond = { beyond_absent };
+
+    ghost exact = { intact_holds };
+
+    fn read(all: &[u8], place: usize, buffer: &mut [u8]) -> Option<usize> {
+        let start = find(all, place);
+        let len = record_length(all, start, place)?;
+        buffer[..len].copy_from_slice(&all[start + 2..start + 2 + len]);
+        Some(len)
+    }
+
+    fn write(all: &mut [u8], place: usize, bytes: &[u8]) {
+        let len = bytes.len();
+        let start = open_gap(all, place, 2 + len);
+        all[start] = place as u8;
+        all[start + 1] = len as u8;
+        all[start + 2..start + 2 + len].copy_from_slice(bytes);
+    }
+
+    fn erase(all: &mut [u8], place: usize) {
+        let _ = open_gap(all, place, 0);
+    }
+
+    fn erase_all(all: &mut [u8]) {
+        mark_end(all, 0);
+    }
+
+    fn is_sound(all: &[u8]) -> bool {
+        let end = find(all, place_count(all, RECORD));
+        end == all.len() || all[end] == END
+    }
 }
 
 // The length of what the place holds, whose record, if it has one, begins at `start`.
@@ -26,15 +79,11 @@ fn record_length(all: &[u8], start: usize, place: usize) -> Option<usize>
     requires { start ≤ length all.now }
     ensures { MatchOption result (record_at place (drop start all.now) ≡ None) (λ len. Found all.now start place len) }
 {
-    let rest = all.len() - start;
-    if rest < 2 {
+    let [name, len, rest @ ..] = &all[start..] else {
         return None;
-    }
-    if all[start] as usize != place {
-        return None;
-    }
-    let len = all[start + 1] as usize;
-    if len > (rest - 2).min(LONGEST) {
+    };
+    let len = *len as usize;
+    if *name as usize != place || len > rest.len().min(LONGEST) {
         return None;
     }
     Some(len)
@@ -48,6 +97,7 @@ fn seek(all: &[u8], from: usize, start: usize, to: usize) -> usize
     ensures { Stands all.now to result }
 {
     let mut at = start;
+    // A record says where the next one begins. Reading one asks that its place lies within the memory, which the loop's invariant tells.
     for place in from..to {
         if let Some(len) = record_length(all, at, place) {
             at += 2 + len;
@@ -56,23 +106,21 @@ fn seek(all: &[u8], from: usize, start: usize, to: usize) -> usize
     at
 }
 
-pub(super) fn mark_end(all: &mut [u8], end: usize)
+// Where the records of the places from `place` on begin.
+fn find(all: &[u8], place: usize) -> usize
+    requires { place ≤ packed_places all.now }
+    ensures { Stands all.now place result }
+{
+    seek(all, 0, 0, place)
+}
+
+fn mark_end(all: &mut [u8], end: usize)
     ensures { all.new ≡ slice_set all.old end 255 }
 {
+    // A byte lent by `get_mut` tells nothing of the memory after it, so the end is written by its number.
     if end < all.len() {
         all[end] = END;
     }
-}
-
-pub(super) fn are_intact(all: &[u8]) -> bool
-    ensures intact { result ≡ intact all.now }
-    ensures octets { Octets all.now }
-{
-    let end = seek(all, 0, 0, place_count(all));
-    if end == all.len() {
-        return true;
-    }
-    all[end] == END
 }
 
 // Makes a gap of `size` bytes where the record of the place is or would be, and says where that is.
@@ -81,45 +129,12 @@ fn open_gap(all: &mut [u8], place: usize, size: usize) -> usize
     requires small { size ≤ 66 }
     ensures { Opened all.old all.new place size result }
 {
-    let count = place_count(all);
-    let gap = seek(all, 0, 0, place);
+    let count = place_count(all, RECORD);
+    let gap = find(all, place);
     let tail = seek(all, place, gap, place + 1);
     let end = seek(all, place + 1, tail, count);
     let to = gap + size;
     all.copy_within(tail..end, to);
     mark_end(all, to + (end - tail));
     gap
-}
-
-pub(super) fn read_record(all: &[u8], place: usize, buffer: &mut [u8]) -> Option<usize>
-    requires in_range { place < packed_places all.now }
-    requires room { 64 ≤ length buffer.old }
-    ensures length { result ≡ option_map length (packed_contents all.now place) }
-    ensures buffer { buffer.new ≡ laid (packed_contents all.now place) buffer.old }
-{
-    let start = seek(all, 0, 0, place);
-    let Some(len) = record_length(all, start, place) else {
-        return None;
-    };
-    buffer[0..len].copy_from_slice(&all[start + 2..start + 2 + len]);
-    Some(len)
-}
-
-pub(super) fn write_record(all: &mut [u8], place: usize, bytes: &[u8])
-    requires in_range { place < packed_places all.old }
-    requires short { length bytes.now ≤ 64 }
-    ensures { Holds all.new (slice_set (table all.old) place (Some bytes.now)) }
-{
-    let len = bytes.len();
-    let start = open_gap(all, place, 2 + len);
-    all[start] = place as u8;
-    all[start + 1] = len as u8;
-    all[start + 2..start + 2 + len].copy_from_slice(bytes);
-}
-
-pub(super) fn clear_record(all: &mut [u8], place: usize)
-    requires { place < packed_places all.old }
-    ensures { Holds all.new (slice_set (table all.old) place None) }
-{
-    let _ = open_gap(all, place, 0);
 }

@@ -1,6 +1,7 @@
 pub mod Lowest
-pub mod Sites
+pub mod Filled
 pub mod Sheets
 pub mod Answers
 pub mod Lawful
 pub mod Asks
+pub mod Sites

@@ -1,20 +1,16 @@
--- Sheets are filled cell by cell, and read back.
-use Rattle.std.proofs.Common.{◌≡◌, ℕ, ◌+◌, ◌<◌, Bool, true, false, cond, List, [], map, length, get_or, set, Some, None, Option, sym, refl, ap, ◌∙◌, subst, ⊎_elim, arith}
-use Rattle.std.proofs.lemmas.List.{get_or-set_same, get_or-set_other, get_or-map}
-use Rattle.std.proofs.lemmas.Bool.{cases_eq}
+-- Sheets are made cell by cell, and read back.
+use Rattle.std.proofs.lemmas.Option.{none-some}
+use Rattle.std.proofs.Common.{◌≡◌, ℕ, ◌<◌, Bool, true, false, cond, List, [], map, length, get_or, Some, None, Option, Bor, IfSome, IsSome, MatchOption, sym, refl, ap, ◌∙◌, subst, arith}
+use Rattle.std.proofs.lemmas.List.{get_or-map}
+use Rattle.std.proofs.lemmas.Bool.{true≢false}
 use Rattle.label.specs.Texts.{text}
 use Rattle.label.specs.declared.path.Path.{Path}
+use Rattle.tables.specs.Model.{Model}
 use Rattle.label.specs.declared.numbers.Dom.{Dom}
 use Rattle.policy.specs.declared.cell.Cell.{Cell}
-use Rattle.policy.specs.Sheets.{code, number, written}
-
--- a list that is filled from its front
-pub filled_more : {X : Type 0} (P : ℕ → X → Type 0) (xs : List X) (k : ℕ) (v e : X) → k < length xs → ((j : ℕ) → j < k → P j (get_or xs j e)) → P k v → (j : ℕ) → j < k + 1 → P j (get_or (set xs k v) j e)
-filled_more P xs k v e l below here j lt =
-    ⊎_elim
-    (λ same. subst (λ i. P i (get_or (set xs k v) i e)) (sym same) (subst (P k) (sym (get_or-set_same xs k v e l)) here))
-    (λ other. subst (P j) (sym (get_or-set_other xs k j v e other)) (below j (omega (arith, other))))
-    (cases_eq j k)
+use Rattle.policy.specs.declared.cell.Sheet.{Sheet}
+use Rattle.policy.specs.Grants.{path_of}
+use Rattle.policy.specs.Sheets.{SheetFor, code, number, written}
 
 -- what is written tells the cell
 code_tells : (x y : Option ℕ) → code x ≡ code y → x ≡ y
@@ -31,8 +27,8 @@ bit_tells false true e = absurd (omega (arith, e))
 
 number_tells : (x y : Option Dom) → number x ≡ number y → x ≡ y
 number_tells None None e = refl
-number_tells None (Some d) e = absurd (let z : ◌≡◌ {A = ℕ} 0 1 = cc in omega arith)
-number_tells (Some d) None e = absurd (let z : ◌≡◌ {A = ℕ} 0 1 = cc in omega arith)
+number_tells None (Some d) e = absurd (none-some _ e)
+number_tells (Some d) None e = absurd (none-some _ (sym e))
 number_tells (Some d) (Some f) e = let h : d.0 ≡ f.0 = cc in ap (λ k. Some (record { 0 = k })) h
 
 pub written_tells : (x y : Cell) → written x ≡ written y → x ≡ y
@@ -44,6 +40,12 @@ written_tells x y e =
     let t = number_tells x.target y.target (code_tells _ _ (ap (λ l. get_or l 4 0) e)) in
     λ j. record { barrier = b j; long = n j; letters = record { bits = r j }; enters = i j; target = t j }
 
--- the text of the object at k
-pub path_read : (os : List Path) (k : ℕ) (p : Path) → k < length os → p ≡ get_or os k p → get_or (map text os) k [] ≡ text p
-path_read os k p l e = get_or-map text os k p [] l ∙ ap text (sym e)
+-- a sheet that is made where a look-up finds an object is the sheet of the object with the number
+pub sheet_made : (m : Model) (os : List Path) (o : ℕ) (s : Sheet) (found : Option (Bor Path)) (Blank : Type 0) (Made : Bor Path → Type 0)
+    → os ≡ m.objects → IfSome found (λ x. x.now ≡ get_or os o x.now) → (o < length os → IsSome found)
+    → ((x : Bor Path) → Made x → SheetFor m (text x.now) s) → MatchOption found Blank Made → o < length m.objects → SheetFor m (path_of m o) s
+sheet_made m os o s None Blank Made e at there tells h l = absurd (true≢false (sym (there (omega (arith, l, ap length e)))))
+sheet_made m os o s (Some x) Blank Made e at there tells h l =
+    let path : path_of m o ≡ text x.now =
+    ap (λ z. get_or (map text z) o []) (sym e) ∙ get_or-map text os o x.now [] (omega (arith, l, ap length e)) ∙ ap text (sym at) in
+    subst (λ p. SheetFor m p s) (sym path) (tells x h)

@@ -1,5 +1,5 @@
 -- What a complete or sealed policy says.
-use Rattle.std.specs.Prelude.{ℕ, Bool, cond, ◌&&◌, is_some, Some, None, Ok, Err, codes, Option, Result}
+use Rattle.std.specs.Prelude.{ℕ, Bool, cond, ◌&&◌, is_some, Ok, Err, codes, Result}
 use Rattle.label.specs.declared.refusal.Refusal.{Refusal}
 use Rattle.label.specs.declared.refusal.Refusal.TheVariants.{NoObject, NoDomain, Denied}
 use Rattle.rules.specs.Typing.{rule_on}
@@ -19,10 +19,6 @@ complete m = is_some m.first && is_some (rule_on m.rules R (codes "/"))
 abbrev pub refusal : Result (Unit {0}) (ℕ × ℕ) → Result (Unit {0}) Refusal
 refusal (Ok u) = Ok tt
 refusal (Err pair) = Err (Denied pair)
-
--- why nothing is decided about an object and a domain: no such object, or no such domain
-abbrev pub unknown : Model → ℕ → ℕ → Option Refusal
-unknown m d o = cond (no_object m o) (Some NoObject) (cond (no_domain m d) (Some NoDomain) None)
 
 -- the answer on an object and a domain by their numbers: no such object, no such domain, and then the grant
 abbrev pub answer : Model → ℕ → ℕ → Result (Unit {0}) (ℕ × ℕ) → Result (Unit {0}) Refusal

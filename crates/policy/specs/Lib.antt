@@ -5,7 +5,6 @@ pub mod Passages
 pub mod PassageLaws
 pub mod Cells
 pub mod Holds
-pub mod Sites
 pub mod Sheets
 pub mod Laws
 pub mod Abstract

@@ -1,4 +1,5 @@
 -- What it is to be the lowest number that passes a test.
+use Rattle.std.proofs.lemmas.Option.{none-some}
 use Rattle.std.specs.Prelude.{◌≡◌, ℕ, zero, suc, ◌<◌, Bool, true, false, cond, ◌⊎◌, Some, None, Option}
 use Rattle.std.proofs.Math.Path.{refl, ap}
 use Rattle.std.proofs.Common.{sym, ◌∙◌, inl, inr, arith}
@@ -19,14 +20,14 @@ or_some (Some y) b x e = inl e
 
 or_none : {X : Type 0} (a b : Option X) → option_or a b ≡ None → (a ≡ None) × (b ≡ None)
 or_none None b e = (refl, e)
-or_none (Some x) b e = absurd (let z : ◌≡◌ {A = ℕ} 0 1 = cc in omega arith)
+or_none (Some x) b e = absurd (none-some _ (sym e))
 
 cond-some : (b : Bool) (n k : ℕ) → cond b (Some n) None ≡ Some k → (b ≡ true) × (n ≡ k)
 cond-some true n k e = (refl, cc)
-cond-some false n k e = absurd (let z : ◌≡◌ {A = ℕ} 0 1 = cc in omega arith)
+cond-some false n k e = absurd (none-some _ e)
 
 cond-none : (b : Bool) (n : ℕ) → cond b (Some n) None ≡ None → b ≡ false
-cond-none true n e = absurd (let z : ◌≡◌ {A = ℕ} 0 1 = cc in omega arith)
+cond-none true n e = absurd (none-some _ (sym e))
 cond-none false n e = refl
 
 module _ (f : ℕ → Bool) where
@@ -46,7 +47,7 @@ module _ (f : ℕ → Bool) where
 
   pub is_lowest : (n k : ℕ) → lowest f n ≡ Some k → Lowest f n k
   unfolding lowest
-  is_lowest zero k e = absurd (let z : ◌≡◌ {A = ℕ} 0 1 = cc in omega arith)
+  is_lowest zero k e = absurd (none-some _ e)
   is_lowest (suc n) k e =
       ⊎_elim
       (λ h. let r = is_lowest n k h in record { below = omega (arith, r.below); passes = r.passes; others = r.others })

@@ -1,6 +1,7 @@
 -- What a grant and a passage rest on.
+use Rattle.std.proofs.lemmas.Option.{none-some}
 use Rattle.std.specs.Prelude.{◌≡◌, ℕ, ◌<◌, Bool, true, false, not, ◌&&◌, ◌||◌, length, is_ok, Some, None, Option, refl}
-use Rattle.std.proofs.Common.{sym, ap, ◌∙◌, ⊎_elim, arith}
+use Rattle.std.proofs.Common.{sym, ap, ◌∙◌, ⊎_elim}
 use Rattle.std.proofs.lemmas.Bool.{true≢false, and_parts, and_from, not-true, not_from_false, or_parts, or_from, or_left, or_right, leb-false, lt-leb, cases_Bool, cond-true, cond-false}
 use Rattle.std.specs.Option.{option_map}
 use Rattle.label.specs.Letters.{letter_r, letter_x}
@@ -56,7 +57,7 @@ pub pass_to : (m : Model) (d o e : ℕ) → pass m d o e ≡ true → e < length
 pass_to m d o e h = leb-false (length m.domains) e (known (no_object m o) (no_domain m e) _ (pass_parts m d o e h).1.0).1
 
 some_dom : (o : Option ℕ) (e : ℕ) → option_map (λ d. d.0) (option_map {U = Dom} (λ n. record { 0 = n }) o) ≡ Some e → o ≡ Some e
-some_dom None e h = absurd (let z : ◌≡◌ {A = ℕ} 0 1 = cc in omega arith)
+some_dom None e h = absurd (none-some _ h)
 some_dom (Some n) e h = h
 
 -- where an auto passage leads is the lowest domain to which one does
@@ -65,11 +66,8 @@ unfolding auto
 auto_is m d o e h =
     ⊎_elim
     (λ t. (t, is_lowest (leads m d (path_of m o)) (length m.domains) e (some_dom _ e (sym (ap (option_map (λ x. x.0)) (cond-true (runs m d o) (target m d (path_of m o)) None t)) ∙ h))))
-    (λ t. absurd (nothing (sym (ap (option_map (λ x. x.0)) (cond-false (runs m d o) (target m d (path_of m o)) None t)) ∙ h)))
+    (λ t. absurd (none-some _ (sym (ap (option_map (λ x. x.0)) (cond-false (runs m d o) (target m d (path_of m o)) None t)) ∙ h)))
     (cases_Bool (runs m d o))
-  where
-    nothing : None ≡ Some e → ⊥
-    nothing q = let z : ◌≡◌ {A = ℕ} 0 1 = cc in omega arith
 
 -- and it is a passage
 pub auto_passes : (m : Model) (d o e : ℕ) → option_map (λ x. x.0) (auto m d o) ≡ Some e → pass m d o e ≡ true

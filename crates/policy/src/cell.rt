@@ -20,5 +20,6 @@ pub struct Cell {
 #[derive(Clone, Copy)]
 pub struct Sheet {
     pub(crate) typ: Typ,
+    // a decision allocates nothing, so every domain that there may be has its cell
     pub(crate) cells: [Cell; 32],
 }

@@ -1,15 +1,13 @@
 //! Types, grants and passages on paths that are handed in.
-ghost use Rattle.std.specs.Prelude.{◌≡◌, ℕ, ◌<◌, ◌≤◌, true, false, ◌||◌, length, Some, None, MatchResult};
-ghost use Rattle.std.specs.Option.{option_map};
+ghost use Rattle.std.specs.Prelude.{◌≡◌, ℕ, ◌<◌, ◌≤◌, true, false, ◌||◌, length, take, Some, None, MatchResult};
 ghost use Rattle.label.specs.Letters.{has, letter_r, letter_x};
 ghost use Rattle.label.specs.Paths.{ancestor};
 ghost use Rattle.label.specs.Texts.{text};
 ghost use Rattle.label.specs.declared.refusal.Refusal.TheVariants.{Incomplete};
 ghost use Rattle.tables.specs.Entries.{enters};
 ghost use Rattle.tables.specs.Model.{model};
-ghost use Rattle.policy.specs.Grants.{type_at, letters_on, barred, barrier, verdict, grant, grant_read, Above};
-ghost use Rattle.policy.specs.Lowest.{lowest};
-ghost use Rattle.policy.specs.Sites.{SiteFor, leads_among};
+ghost use Rattle.policy.specs.Grants.{type_at, letters_on, barred, barrier, verdict, grant, grant_read};
+ghost use Rattle.policy.specs.Passages.{leads, target};
 ghost use Rattle.policy.specs.Cells.{cell_of};
 ghost use Rattle.policy.specs.Holds.{model_of, complete};
 
@@ -22,36 +20,34 @@ use label::paths::is_ancestor;
 use label::refusal::Refusal;
 use label::rights::Rights;
 use rules::rule::Flag;
+use std::array;
 use tables::holding::Passage;
 use tables::table::Tables;
 
 impl Cell {
+    // Granted where nothing bars the path and the domain holds what is asked, or the denial, which names the letter where the path itself failed.
+    fn verdict(self, held: bool, letter: char) -> Result<(), (usize, char)>
+        ensures { result ≡ verdict self.barrier held self.long letter }
+    {
+        match self.barrier {
+            Some(n) => Err((usize::from(n), 'd')),
+            None if held => Ok(()),
+            None => Err((usize::from(self.long), letter)),
+        }
+    }
+
     // Whether the letter is granted, or the denial.
     pub(crate) fn grant(self, letter: char) -> Result<(), (usize, char)>
         ensures { result ≡ verdict self.barrier (has self.letters letter) self.long letter }
     {
-        if let Some(n) = self.barrier {
-            return Err((n as usize, 'd'));
-        }
-        if self.letters.has(letter) {
-            Ok(())
-        } else {
-            Err((self.long as usize, letter))
-        }
+        self.verdict(self.letters.has(letter), letter)
     }
 
     // The same for reading, which r or x grants.
     pub(crate) fn grant_read(self) -> Result<(), (usize, char)>
         ensures { result ≡ verdict self.barrier (has self.letters letter_r || has self.letters letter_x) self.long letter_r }
     {
-        if let Some(n) = self.barrier {
-            return Err((n as usize, 'd'));
-        }
-        if self.letters.has('r') || self.letters.has('x') {
-            Ok(())
-        } else {
-            Err((self.long as usize, 'r'))
-        }
+        self.verdict(self.letters.has('r') || self.letters.has('x'), 'r')
     }
 }
 
@@ -86,27 +82,28 @@ impl Policy {
         self.tables.rules().type_of(path.as_bytes()).unwrap()
     }
 
-    // The type of each ancestor, by its length.
-    pub(crate) fn types_above(&self, path: &[u8]) -> [Option<Typ>; 64]
-        requires { length path.now ≤ 64 }
-        ensures { Above (model_of self.now) path.now result (length path.now) }
+    // The type of the first `n` bytes, where they are an ancestor of the path.
+    fn type_above(&self, path: &[u8], n: usize) -> Option<Typ>
+        ensures { ancestor path.now n ≡ true → result ≡ type_at (model_of self.now) (take n path.now) }
     {
-        let mut types = [None; 64];
-        for n in 1..path.len() {
-            if is_ancestor(path, n) {
-                types[n] = self.tables.rules().type_of(&path[0..n]);
-            }
+        if is_ancestor(path, n) {
+            self.tables.rules().type_of(&path[..n])
+        } else {
+            None
         }
-        types
     }
 
     // What the tables say of the path.
-    pub(crate) fn site(&self, path: &Path) -> Site
-        ensures { SiteFor (model_of self.now) (text path.now) result }
+    pub(crate) fn site<'a>(&'a self, path: &'a Path) -> Site<'a>
+        ensures policy { result.policy.now ≡ self.now }
+        ensures path { result.path.now ≡ text path.now }
     {
         let bytes = path.as_bytes();
         Site {
-            above: self.types_above(bytes),
+            policy: self,
+            path: bytes,
+            // A decision allocates nothing, so the ancestors' types are a fixed array.
+            above: array::from_fn(|n| self.type_above(bytes, n)),
             typ: self.type_of(path),
             entered: self.tables.entries().entered_by(bytes),
         }
@@ -116,98 +113,83 @@ impl Policy {
     fn letters_on(&self, dom: Dom, typ: Option<Typ>) -> Rights
         ensures { result ≡ letters_on (model_of self.now) dom.0 typ }
     {
-        match typ {
-            Some(typ) => self.tables.rights(dom, typ),
-            None => Rights::none(),
-        }
+        typ.map_or(Rights::none(), |typ| self.tables.rights(dom, typ))
     }
 
-    // Whether the first `n` bytes are an ancestor of the path, and the domain lacks d on its type.
-    fn bars(&self, dom: Dom, path: &[u8], site: &Site, n: usize) -> bool
-        requires short { (length path.now ≤ 64) × (n < length path.now) }
-        requires sited { SiteFor (model_of self.now) path.now site.now }
-        ensures { result ≡ barred (model_of self.now) dom.0 path.now n }
-    {
-        is_ancestor(path, n) && !self.letters_on(dom, site.above[n]).has('d')
-    }
-
-    // The length of the first ancestor, from `/` downward, on whose type the domain lacks d.
-    fn barrier(&self, dom: Dom, path: &[u8], site: &Site) -> Option<u8>
-        requires short { length path.now ≤ 64 }
-        requires sited { SiteFor (model_of self.now) path.now site.now }
-        ensures { result ≡ barrier (model_of self.now) dom.0 path.now }
-    {
-        for n in 0..path.len() {
-            if self.bars(dom, path, site, n) {
-                return Some(n as u8);
-            }
-        }
-        None
-    }
-
-    // Whether the path is an entry path of the domain.
-    fn enters(&self, dom: Dom, path: &[u8], site: &Site) -> bool
-        requires { SiteFor (model_of self.now) path.now site.now }
-        ensures { result ≡ enters (model_of self.now).entries dom.0 path.now }
-    {
-        match site.entered.get(dom.0 as usize) {
-            Some(enters) => *enters,
-            None => self.tables.entries().enters(dom, path),
-        }
-    }
-
-    // Whether the domain lists an auto passage to the other, and that one is entered.
-    fn leads(&self, dom: Dom, entered: &[bool; 32], to: Dom) -> bool
-        requires { to.0 < 32 }
-        ensures { result ≡ leads_among (model_of self.now) dom.0 entered.now to.0 }
-    {
-        self.tables.lists(dom, Passage::Auto, to) && entered[to.0 as usize]
-    }
-
-    // The lowest domain to which an auto passage leads, of those that are entered.
-    fn target(&self, dom: Dom, entered: &[bool; 32]) -> Option<Dom>
-        ensures { result ≡ option_map (λ e. record { 0 = e }) (lowest (leads_among (model_of self.now) dom.0 entered.now) (length (model_of self.now).domains)) }
-    {
-        for e in 0..self.tables.domain_count() {
-            if self.leads(dom, entered, Dom(e)) {
-                return Some(Dom(e));
-            }
-        }
-        None
-    }
-
-    // What is decided about the domain and the path.
-    pub(crate) fn cell(&self, dom: Dom, path: &[u8], site: &Site) -> Cell
-        requires short { length path.now ≤ 64 }
-        requires sited { SiteFor (model_of self.now) path.now site.now }
-        ensures { result ≡ cell_of (model_of self.now) dom.0 path.now (type_at (model_of self.now) path.now) }
-    {
-        Cell {
-            barrier: self.barrier(dom, path, site),
-            long: path.len() as u8,
-            letters: self.letters_on(dom, Some(site.typ)),
-            enters: self.enters(dom, path, site),
-            target: self.target(dom, &site.entered),
-        }
-    }
-
-    fn cell_on(&self, dom: Dom, path: &Path) -> Cell
+    fn cell(&self, dom: Dom, path: &Path) -> Cell
         ensures { result ≡ cell_of (model_of self.now) dom.0 (text path.now) (type_at (model_of self.now) (text path.now)) }
     {
-        self.cell(dom, path.as_bytes(), &self.site(path))
+        self.site(path).cell(dom)
     }
 
     // Whether the domain is granted the letter on the path, or the denial.
+    #[tactic(auto, unfolding(crate::specs::Cells::cell_of))]
     pub fn grant(&self, dom: Dom, path: &Path, letter: char) -> Result<(), (usize, char)>
         ensures { result ≡ grant (model_of self.now) dom.0 (text path.now) (type_at (model_of self.now) (text path.now)) letter }
     {
-        self.cell_on(dom, path).grant(letter)
+        self.cell(dom, path).grant(letter)
     }
 
     // Whether the domain may read at the path, by r or x, or the denial.
+    #[tactic(auto, unfolding(crate::specs::Cells::cell_of))]
     pub fn grant_read(&self, dom: Dom, path: &Path) -> Result<(), (usize, char)>
         ensures { result ≡ grant_read (model_of self.now) dom.0 (text path.now) (type_at (model_of self.now) (text path.now)) }
     {
-        self.cell_on(dom, path).grant_read()
+        self.cell(dom, path).grant_read()
+    }
+}
+
+impl Site<'_> {
+    // Whether the first `n` bytes are an ancestor of the path, and the domain lacks d on its type.
+    fn bars(&self, dom: Dom, n: usize) -> bool
+        ensures { result ≡ barred (model_of self.now.policy.now) dom.0 self.now.path.now n }
+    {
+        is_ancestor(self.path, n) && !self.policy.letters_on(dom, self.above[n]).has('d')
+    }
+
+    // The length of the first ancestor, from `/` downward, on whose type the domain lacks d.
+    fn barrier(&self, dom: Dom) -> Option<u8>
+        ensures { result ≡ barrier (model_of self.now.policy.now) dom.0 self.now.path.now }
+    {
+        (0..self.path.len() as u8).find(|&n| self.bars(dom, usize::from(n)))
+    }
+
+    // Whether the path is an entry path of the domain.
+    fn enters(&self, dom: Dom) -> bool
+        ensures { result ≡ enters (model_of self.now.policy.now).entries dom.0 self.now.path.now }
+    {
+        self.entered
+            .get(usize::from(dom.0))
+            .copied()
+            .unwrap_or_else(|| self.policy.tables.entries().enters(dom, self.path))
+    }
+
+    // Whether an auto passage of the domain leads to the other by the path.
+    fn leads(&self, dom: Dom, to: Dom) -> bool
+        ensures { result ≡ leads (model_of self.now.policy.now) dom.0 self.now.path.now to.0 }
+    {
+        self.policy.tables.lists(dom, Passage::Auto, to) && self.enters(to)
+    }
+
+    // The lowest domain to which an auto passage leads by the path.
+    fn target(&self, dom: Dom) -> Option<Dom>
+        ensures { result ≡ target (model_of self.now.policy.now) dom.0 self.now.path.now }
+    {
+        (0..self.policy.tables.domain_count())
+            .find(|&e| self.leads(dom, Dom(e)))
+            .map(Dom)
+    }
+
+    // What is decided about the domain and the path.
+    pub(crate) fn cell(&self, dom: Dom) -> Cell
+        ensures { result ≡ cell_of (model_of self.now.policy.now) dom.0 self.now.path.now (type_at (model_of self.now.policy.now) self.now.path.now) }
+    {
+        Cell {
+            barrier: self.barrier(dom),
+            long: self.path.len() as u8,
+            letters: self.policy.letters_on(dom, Some(self.typ)),
+            enters: self.enters(dom),
+            target: self.target(dom),
+        }
     }
 }

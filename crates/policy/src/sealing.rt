@@ -1,13 +1,13 @@
 //! Sealing a policy, and looking up what was decided.
-ghost use Rattle.std.specs.Prelude.{◌≡◌, ℕ, ◌<◌, ◌≤◌, false, length, if◌then◌else◌, Ok, Err};
+ghost use Rattle.std.specs.Prelude.{◌≡◌, ℕ, ◌<◌, ◌≤◌, true, false, length, if◌then◌else◌, Ok, Err, IfOk, IfErr};
 ghost use Rattle.label.specs.Texts.{text};
 ghost use Rattle.label.specs.declared.refusal.Refusal.TheVariants.{NoObject};
 ghost use Rattle.tables.specs.Model.{no_domain};
-ghost use Rattle.policy.specs.Grants.{path_of, object_type, no_object};
-ghost use Rattle.policy.specs.Cells.{cell_of};
-ghost use Rattle.policy.specs.Holds.{model_of, refusal, unknown, decision, read_decision};
+ghost use Rattle.policy.specs.Grants.{path_of, no_object};
+ghost use Rattle.policy.specs.Cells.{known};
+ghost use Rattle.policy.specs.Holds.{model_of, decision, read_decision};
 ghost use Rattle.policy.specs.Passages.{passage_to, runs, entered, pass, auto};
-ghost use Rattle.policy.specs.Sheets.{SheetFor, CellsMade, TypesMade, type_number, blank_cell};
+ghost use Rattle.policy.specs.Sheets.{SheetFor, CellsMade, TypesMade, type_number, sheet_at};
 
 use crate::cell::{Cell, Sheet};
 use crate::complete::Policy;
@@ -16,18 +16,22 @@ use label::numbers::{Dom, Obj, Typ};
 use label::path::Path;
 use label::refusal::Refusal;
 use label::rights::Rights;
+use std::array;
 use tables::holding::Passage;
 
-impl Cell {
-    fn blank() -> Cell
-        ensures { result ≡ blank_cell }
-    {
-        Cell {
+impl Sheet {
+    // What stands where there is no object.
+    fn blank() -> Sheet {
+        let cell = Cell {
             barrier: None,
             long: 0,
             letters: Rights::none(),
             enters: false,
             target: None,
+        };
+        Sheet {
+            typ: Typ(0),
+            cells: [cell; 32],
         }
     }
 }
@@ -37,32 +41,29 @@ impl Policy {
     fn sheet(&self, path: &Path) -> Sheet
         ensures { SheetFor (model_of self.now) (text path.now) result }
     {
-        let bytes = path.as_bytes();
         let site = self.site(path);
-        let mut cells = [Cell::blank(); 32];
-        for d in 0..32u8 {
-            cells[d as usize] = self.cell(Dom(d), bytes, &site);
-        }
         Sheet {
             typ: site.typ,
-            cells,
+            cells: array::from_fn(|d| site.cell(Dom(d as u8))),
         }
     }
 
+    // What is decided about the object with this number, if there is one.
+    fn sheet_of(&self, o: usize) -> Sheet
+        ensures { o < length (model_of self.now).objects → SheetFor (model_of self.now) (path_of (model_of self.now) o) result }
+    {
+        self.tables
+            .objects()
+            .get(o)
+            .map_or_else(Sheet::blank, |path| self.sheet(path))
+    }
+
+    // Sealing cannot fail and a decision allocates nothing, so there is room for every object that a policy may have.
     fn sheets(&self) -> [Sheet; 128]
         ensures cells { CellsMade self.now result }
         ensures types { TypesMade self.now result }
     {
-        let blank = Sheet {
-            typ: Typ(0),
-            cells: [Cell::blank(); 32],
-        };
-        let mut sheets = [blank; 128];
-        let objects = self.tables.objects();
-        for (o, path) in objects.iter().enumerate() {
-            sheets[o] = self.sheet(path);
-        }
-        sheets
+        array::from_fn(|o| self.sheet_of(o))
     }
 
     // Makes every decision on the objects, once.
@@ -74,16 +75,6 @@ impl Policy {
             policy: self,
             sheets,
         }
-    }
-}
-
-// A denial as a refusal that carries its pair.
-fn refused(verdict: Result<(), (usize, char)>) -> Result<(), Refusal>
-    ensures { result ≡ refusal verdict }
-{
-    match verdict {
-        Ok(()) => Ok(()),
-        Err(pair) => Err(Refusal::Denied(pair)),
     }
 }
 
@@ -116,54 +107,47 @@ impl Sealed {
         self.policy.tables.no_domain(dom)
     }
 
-    // Why nothing is decided about the domain and the object: no such object, or no such domain.
-    fn refuses(&self, dom: Dom, obj: Obj) -> Option<Refusal>
-        ensures { result ≡ unknown (model_of self.now.policy) dom.0 obj.0 }
+    // What is decided about the object, if there is one.
+    fn sheet(&self, obj: Obj) -> Result<&Sheet, Refusal>
+        ensures there { IfOk result (λ s. (no_object (model_of self.now.policy) obj.0 ≡ false) × (s.now ≡ sheet_at self.now.sheets obj.0)) }
+        ensures missing { IfErr result (λ e. (no_object (model_of self.now.policy) obj.0 ≡ true) × (e ≡ NoObject)) }
     {
         if self.no_object(obj) {
-            return Some(Refusal::NoObject);
+            return Err(Refusal::NoObject);
         }
-        if self.no_domain(dom) {
-            return Some(Refusal::NoDomain);
-        }
-        None
+        Ok(&self.sheets[usize::from(obj.0)])
     }
 
-    fn cell(&self, dom: Dom, obj: Obj) -> Cell
-        requires { (no_object (model_of self.now.policy) obj.0 ≡ false) × (no_domain (model_of self.now.policy) dom.0 ≡ false) }
-        ensures { result ≡ cell_of (model_of self.now.policy) dom.0 (path_of (model_of self.now.policy) obj.0) (object_type (model_of self.now.policy) obj.0) }
+    // What is decided about the domain and the object, if there are both.
+    fn cell(&self, dom: Dom, obj: Obj) -> Result<Cell, Refusal>
+        ensures { result ≡ known (model_of self.now.policy) dom.0 obj.0 }
     {
-        self.sheets[obj.0 as usize].cells[dom.0 as usize]
+        let sheet = self.sheet(obj)?;
+        if self.no_domain(dom) {
+            return Err(Refusal::NoDomain);
+        }
+        Ok(sheet.cells[usize::from(dom.0)])
     }
 
     // The type of the object.
     pub fn type_of(&self, obj: Obj) -> Result<Typ, Refusal>
         ensures { result ≡ (if no_object (model_of self.now.policy) obj.0 then Err NoObject else Ok (record { 0 = type_number (model_of self.now.policy) obj.0 })) }
     {
-        if self.no_object(obj) {
-            return Err(Refusal::NoObject);
-        }
-        Ok(self.sheets[obj.0 as usize].typ)
+        Ok(self.sheet(obj)?.typ)
     }
 
     // Whether the domain is granted the letter on the object.
     pub fn decide(&self, dom: Dom, obj: Obj, letter: char) -> Result<(), Refusal>
         ensures { result ≡ decision (model_of self.now.policy) dom.0 obj.0 letter }
     {
-        if let Some(refusal) = self.refuses(dom, obj) {
-            return Err(refusal);
-        }
-        refused(self.cell(dom, obj).grant(letter))
+        self.cell(dom, obj)?.grant(letter).map_err(Refusal::Denied)
     }
 
     // Whether the domain may read the object, by r or x.
     pub fn decide_read(&self, dom: Dom, obj: Obj) -> Result<(), Refusal>
         ensures { result ≡ read_decision (model_of self.now.policy) dom.0 obj.0 }
     {
-        if let Some(refusal) = self.refuses(dom, obj) {
-            return Err(refusal);
-        }
-        refused(self.cell(dom, obj).grant_read())
+        self.cell(dom, obj)?.grant_read().map_err(Refusal::Denied)
     }
 
     fn lists(&self, dom: Dom, to: Dom) -> bool
@@ -184,33 +168,22 @@ impl Sealed {
     fn enters(&self, obj: Obj, dom: Dom) -> bool
         ensures { result ≡ entered (model_of self.now.policy) obj.0 dom.0 }
     {
-        if self.no_object(obj) || self.no_domain(dom) {
-            return false;
-        }
-        self.cell(dom, obj).enters
+        self.cell(dom, obj).is_ok_and(|cell| cell.enters)
     }
 
     // Whether the domain may pass to the other by the object.
+    #[tactic(auto, unfolding(crate::specs::Passages::pass))]
     pub fn passes(&self, dom: Dom, obj: Obj, to: Dom) -> bool
         ensures { result ≡ pass (model_of self.now.policy) dom.0 obj.0 to.0 }
     {
-        if !self.runs(dom, obj) {
-            return false;
-        }
-        if !self.enters(obj, to) {
-            return false;
-        }
-        self.lists(dom, to)
+        self.runs(dom, obj) && self.enters(obj, to) && self.lists(dom, to)
     }
 
     // The domain to which a run of the object without a wish passes.
     pub fn auto(&self, dom: Dom, obj: Obj) -> Option<Dom>
         ensures { result ≡ auto (model_of self.now.policy) dom.0 obj.0 }
     {
-        if self.runs(dom, obj) {
-            self.cell(dom, obj).target
-        } else {
-            None
-        }
+        let cell = self.cell(dom, obj).ok()?;
+        cell.grant('x').ok().and(cell.target)
     }
 }

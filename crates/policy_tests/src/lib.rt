@@ -118,10 +118,9 @@ mod tests {
         hold(&mut t, PRINT, &[('d', ANY), ('r', LOG), ('c', ANY)])?;
         t.add_passage(BOOT, Passage::Auto, SCALE)?;
         t.add_passage(BOOT, Passage::Exec, PRINT)?;
-        match Policy::of(t) {
-            Ok(policy) => Ok(policy.seal()),
-            Err((_, refusal)) => Err(refusal),
-        }
+        Policy::of(t)
+            .map(Policy::seal)
+            .map_err(|(_, refusal)| refusal)
     }
 
     #[test]

@@ -1,9 +1,11 @@
 -- The node at place h of the queue is expanded: each node is looked at in turn.
-use Rattle.std.proofs.Common.{◌≡◌, ℕ, ◌+◌, ◌<◌, ◌≤◌, Bool, true, false, eqb, ◌≢◌, ◌⊎◌, get_or, sym, ap, ◌∙◌, subst, inl, inr, ⊎_elim, arith}
+use Rattle.std.proofs.Common.{◌≡◌, ℕ, ◌+◌, ◌<◌, ◌≤◌, Bool, true, false, eqb, ◌≢◌, ◌⊎◌, Some, None, Option, is_some, refl, sym, ap, ◌∙◌, subst, inl, inr, ⊎_elim, arith}
 use Rattle.std.proofs.lemmas.List.{get_or-set_same, get_or-set_other}
 use Rattle.std.proofs.lemmas.Bool.{cases_lt, cases_eq, both_ways, ne_eqb}
 use Rattle.reach.specs.declared.search.Search.{Search}
-use Rattle.reach.specs.Queue.{far_of, node_at, finding, Looked, Parent, Queue, SameSources}
+use Rattle.reach.specs.declared.table.Step.{Step}
+use Rattle.reach.specs.Queue.{far, far_of, node_at, finding, Looked, Parent, Queue, SameSources}
+use Rattle.reach.specs.Steps.{step_at, from_of}
 use Rattle.reach.proofs.Missing.{queue_has_room, room_stays}
 
 -- a distance is below the number of nodes
@@ -12,7 +14,7 @@ far_is_short E h w s r i l = omega (arith, r.short i l, r.room.count)
 
 module _ (E : ℕ → ℕ → Bool) (h w : ℕ) (s : Search) (r : Queue E h w s) (hh : h < s.count) (hw : w < 160) where
   -- the node w is found, or no edge leads there
-  pub queue_kept : (far_of s w ≡ 255 → E (node_at s h) w ≡ false) → Queue E h (w + 1) s
+  pub queue_kept : (step_at s.steps w ≡ None → E (node_at s h) w ≡ false) → Queue E h (w + 1) s
   queue_kept f =
       record {
         room = r.room;
@@ -25,35 +27,44 @@ module _ (E : ℕ → ℕ → Bool) (h w : ℕ) (s : Search) (r : Queue E h w s)
         closed = λ i v hi hv q t. ⊎_elim (λ l. r.closed i v hi hv (inl l) t) (λ z. at_h i v hi hv z.0 z.1 t (cases_eq v w)) q;
       }
     where
-      at_w : E (node_at s h) w ≡ true → (far_of s w ≡ 255) ⊎ (far_of s w ≡ 255 → ⊥) → far_of s w ≤ far_of s (node_at s h) + 1
-      at_w t (inl e) = absurd (both_ways (E (node_at s h) w) (f e) t)
-      at_w t (inr n) =
-          let j = r.queued w hw n in
-          let e : far_of s (node_at s j.0) ≡ far_of s w = ap (far_of s) j.2 in
+      at_w : E (node_at s h) w ≡ true → (step : Option Step) → step_at s.steps w ≡ step → far_of s w ≤ far_of s (node_at s h) + 1
+      at_w t None e = absurd (both_ways (E (node_at s h) w) (f e) t)
+      at_w t (Some x) e =
+          let j = r.queued w (ap is_some e) in
+          let q : far_of s (node_at s j.0) ≡ far_of s w = ap (far_of s) j.2 in
           omega (arith, r.low h j.0 (omega arith) hh j.1)
 
       at_h : (i v : ℕ) → i < s.count → v < 160 → i ≡ h → v < w + 1 → E (node_at s i) v ≡ true → (v ≡ w) ⊎ (v ≡ w → ⊥) → far_of s v ≤ far_of s (node_at s i) + 1
       at_h i v hi hv e l t (inl q) =
           let t' : E (node_at s h) w ≡ true = ap (λ (x : ℕ). E (node_at s x) w) (sym e) ∙ ap (E (node_at s i)) (sym q) ∙ t in
-          rw (e, q) (at_w t' (cases_eq (far_of s w) 255))
+          rw (e, q) (at_w t' (step_at s.steps w) refl)
       at_h i v hi hv e l t (inr n) = r.closed i v hi hv (inr (e, omega arith)) t
 
   -- the node w is found from the node at place h
-  module _ (e : far_of s w ≡ 255) (t : E (node_at s h) w ≡ true) where
-    abbrev s' : Search
-    s' = finding s w (far_of s (node_at s h) + 1) (node_at s h)
+  module _ (e : step_at s.steps w ≡ None) (t : E (node_at s h) w ≡ true) where
+    abbrev step : Step
+    step = record { dist = far_of s (node_at s h) + 1; parent = node_at s h }
 
-    not_far : far_of s (node_at s h) + 1 ≢ 255
-    not_far q = omega (arith, far_is_short E h w s r h hh)
+    abbrev s' : Search
+    s' = finding s w step
+
+    w_is_far : far_of s w ≡ 255
+    w_is_far = ap far e
 
     pub find_has_room : s.count < 160
-    find_has_room = queue_has_room s r.room w (far_of s (node_at s h) + 1) (node_at s h) hw e not_far
+    find_has_room = queue_has_room s r.room w step hw e
+
+    step_other : (v : ℕ) → v ≢ w → step_at s'.steps v ≡ step_at s.steps v
+    step_other v n = get_or-set_other s.steps w v (Some step) None n
 
     far_other : (v : ℕ) → v ≢ w → far_of s' v ≡ far_of s v
-    far_other v n = get_or-set_other s.dist w v (far_of s (node_at s h) + 1) 0 n
+    far_other v n = ap far (step_other v n)
+
+    step_w : step_at s'.steps w ≡ Some step
+    step_w = get_or-set_same s.steps w (Some step) None (omega (arith, r.room.steps))
 
     far_w : far_of s' w ≡ far_of s (node_at s h) + 1
-    far_w = get_or-set_same s.dist w (far_of s (node_at s h) + 1) 0 (omega (arith, r.room.dist))
+    far_w = ap far step_w
 
     pub node_before : (i : ℕ) → i < s.count → node_at s' i ≡ node_at s i
     node_before i l = get_or-set_other s.queue s.count i w 0 (omega arith)
@@ -62,7 +73,7 @@ module _ (E : ℕ → ℕ → Bool) (h w : ℕ) (s : Search) (r : Queue E h w s)
     node_last = get_or-set_same s.queue s.count w 0 (omega (arith, r.room.queue, find_has_room))
 
     w_is_not_queued : (i : ℕ) → i < s.count → node_at s i ≢ w
-    w_is_not_queued i l q = let z : far_of s (node_at s i) ≡ far_of s w = ap (far_of s) q in omega (arith, far_is_short E h w s r i l)
+    w_is_not_queued i l q = let z : far_of s (node_at s i) ≡ far_of s w = ap (far_of s) q in omega (arith, w_is_far, far_is_short E h w s r i l)
 
     pub far_before : (i : ℕ) → i < s.count → far_of s' (node_at s' i) ≡ far_of s (node_at s i)
     far_before i l = ap (far_of s') (node_before i l) ∙ far_other (node_at s i) (w_is_not_queued i l)
@@ -84,10 +95,10 @@ module _ (E : ℕ → ℕ → Bool) (h w : ℕ) (s : Search) (r : Queue E h w s)
     node_stays i (inl q) l = rw (node_before i q) (r.node i q)
     node_stays i (inr q) l = let z : i ≡ s.count = omega arith in rw z (rw node_last hw)
 
-    queued_stays : (v : ℕ) → v < 160 → far_of s' v ≢ 255 → (v ≡ w) ⊎ (v ≡ w → ⊥) → (i : ℕ) × (i < s.count + 1) × (node_at s' i ≡ v)
-    queued_stays v hv n (inl q) = (s.count, omega arith, node_last ∙ sym q)
-    queued_stays v hv n (inr q) =
-        let j = r.queued v hv (λ z. n (far_other v q ∙ z)) in
+    queued_stays : (v : ℕ) → is_some (step_at s'.steps v) ≡ true → (v ≡ w) ⊎ (v ≡ w → ⊥) → (i : ℕ) × (i < s.count + 1) × (node_at s' i ≡ v)
+    queued_stays v f (inl q) = (s.count, omega arith, node_last ∙ sym q)
+    queued_stays v f (inr q) =
+        let j = r.queued v (ap is_some (sym (step_other v q)) ∙ f) in
         (j.0, omega (arith, j.1), node_before j.0 j.1 ∙ j.2)
 
     sorted_stays : (i j : ℕ) → i ≤ j → j < s.count + 1 → far_of s' (node_at s' i) ≤ far_of s' (node_at s' j)
@@ -113,26 +124,26 @@ module _ (E : ℕ → ℕ → Bool) (h w : ℕ) (s : Search) (r : Queue E h w s)
         (far_at j hj))
         (far_at i hi)
 
-    back_stays : (v k : ℕ) → v < 160 → far_of s' v ≡ k + 1 → k + 1 < 255 → (v ≡ w) ⊎ (v ≡ w → ⊥) → Parent E s' v k (get_or s'.parent v 0)
-    back_stays v k hv q l (inl z) =
+    back_stays : (v k : ℕ) → far_of s' v ≡ k + 1 → k + 1 < 255 → (v ≡ w) ⊎ (v ≡ w → ⊥) → Parent E s' v k (from_of (step_at s'.steps v))
+    back_stays v k q l (inl z) =
         let d : far_of s (node_at s h) ≡ k = omega (arith, far_w, ap (far_of s') z) in
-        let p : get_or s'.parent v 0 ≡ node_at s h = ap (λ (x : ℕ). get_or s'.parent x 0) z ∙ get_or-set_same s.parent w (node_at s h) 0 (omega (arith, r.room.parent)) in
+        let p : from_of (step_at s'.steps v) ≡ node_at s h = ap (λ (x : ℕ). from_of (step_at s'.steps x)) z ∙ ap from_of step_w in
         rw p (record {
           node = r.node h hh;
           far = far_other (node_at s h) (w_is_not_queued h hh) ∙ d;
           edge = ap (E (node_at s h)) z ∙ t;
         })
-    back_stays v k hv q l (inr z) =
-        let b = r.back v k hv (sym (far_other v z) ∙ q) l in
-        let p : get_or s'.parent v 0 ≡ get_or s.parent v 0 = get_or-set_other s.parent w v (node_at s h) 0 z in
-        let n : get_or s.parent v 0 ≢ w = λ x. omega (arith, e, ap (far_of s) x, b.far) in
-        rw p (record { node = b.node; far = far_other (get_or s.parent v 0) n ∙ b.far; edge = b.edge })
+    back_stays v k q l (inr z) =
+        let b = r.back v k (sym (far_other v z) ∙ q) l in
+        let p : from_of (step_at s'.steps v) ≡ from_of (step_at s.steps v) = ap from_of (step_other v z) in
+        let n : from_of (step_at s.steps v) ≢ w = λ x. omega (arith, w_is_far, ap (far_of s) x, b.far) in
+        rw p (record { node = b.node; far = far_other (from_of (step_at s.steps v)) n ∙ b.far; edge = b.edge })
 
     closed_stays : (i v : ℕ) → i < s.count → v < 160 → Looked h (w + 1) i v → E (node_at s i) v ≡ true → (v ≡ w) ⊎ (v ≡ w → ⊥) →
         far_of s' v ≤ far_of s (node_at s i) + 1
     closed_stays i v hi hv (inl l) x (inl z) =
         let c = r.closed i v hi hv (inl l) x in
-        absurd (omega (arith, ap (far_of s) z, far_is_short E h w s r i hi))
+        absurd (omega (arith, w_is_far, ap (far_of s) z, far_is_short E h w s r i hi))
     closed_stays i v hi hv (inr l) x (inl z) =
         omega (arith, ap (far_of s') z, far_w, ap (λ (y : ℕ). far_of s (node_at s y)) l.0)
     closed_stays i v hi hv (inl l) x (inr z) = omega (arith, far_other v z, r.closed i v hi hv (inl l) x)
@@ -142,13 +153,13 @@ module _ (E : ℕ → ℕ → Bool) (h w : ℕ) (s : Search) (r : Queue E h w s)
     pub queue_found : Queue E h (w + 1) s'
     queue_found =
         record {
-          room = room_stays s r.room w (far_of s (node_at s h) + 1) (node_at s h) hw e not_far;
+          room = room_stays s r.room w step hw e;
           node = λ i l. node_stays i (cases_lt i s.count) l;
-          queued = λ v hv n. queued_stays v hv n (cases_eq v w);
+          queued = λ v f. queued_stays v f (cases_eq v w);
           sorted = sorted_stays;
           low = low_stays;
           short = λ i l. ⊎_elim (λ a. omega (arith, a.1, r.short i a.0)) (λ a. omega (arith, a.0, a.1, r.short h hh)) (far_at i l);
-          back = λ v k hv q l. back_stays v k hv q l (cases_eq v w);
+          back = λ v k q l. back_stays v k q l (cases_eq v w);
           closed = λ i v hi hv q x.
               let l : i < s.count = ⊎_elim (λ z. omega arith) (λ z. omega (arith, z.0)) q in
               rw (far_before i l) (closed_stays i v l hv q (ap (λ (y : ℕ). E y v) (sym (node_before i l)) ∙ x) (cases_eq v w));
@@ -158,7 +169,7 @@ module _ (E : ℕ → ℕ → Bool) (h w : ℕ) (s : Search) (r : Queue E h w s)
     found_is_no_source v hv = by (cases_eq v w)
       where
         by : (v ≡ w) ⊎ (v ≡ w → ⊥) → eqb (far_of s' v) 0 ≡ eqb (far_of s v) 0
-        by (inl q) = ne_eqb (far_of s' v) 0 (λ z. omega (arith, z, far_w, ap (far_of s') q)) ∙ sym (ne_eqb (far_of s v) 0 (λ z. omega (arith, z, e, ap (far_of s) q)))
+        by (inl q) = ne_eqb (far_of s' v) 0 (λ z. omega (arith, z, far_w, ap (far_of s') q)) ∙ sym (ne_eqb (far_of s v) 0 (λ z. omega (arith, z, w_is_far, ap (far_of s) q)))
         by (inr q) = ap (λ (x : ℕ). eqb x 0) (far_other v q)
 
 -- The node u at place h of the queue, at a level, is expanded as far as the node w.
@@ -170,7 +181,7 @@ pub record Expanding (E : ℕ → ℕ → Bool) (h u level w : ℕ) (s s' : Sear
   pub sources : SameSources s s'
 
 module _ (E : ℕ → ℕ → Bool) (h u level w : ℕ) (s s' : Search) (r : Expanding E h u level w s s') where
-  pub expanding_kept : w < 160 → (far_of s' w ≡ 255 → E u w ≡ false) → Expanding E h u level (w + 1) s s'
+  pub expanding_kept : w < 160 → (step_at s'.steps w ≡ None → E u w ≡ false) → Expanding E h u level (w + 1) s s'
   expanding_kept hw f =
       record {
         queue = queue_kept E h w s' r.queue r.place hw (λ q. ap (λ (x : ℕ). E x w) r.node ∙ f q);
@@ -180,11 +191,11 @@ module _ (E : ℕ → ℕ → Bool) (h u level w : ℕ) (s s' : Search) (r : Exp
         sources = r.sources;
       }
 
-  pub expanding_found : w < 160 → far_of s' w ≡ 255 → E u w ≡ true → Expanding E h u level (w + 1) s (finding s' w (level + 1) u)
+  pub expanding_found : w < 160 → step_at s'.steps w ≡ None → E u w ≡ true → Expanding E h u level (w + 1) s (finding s' w (record { dist = level + 1; parent = u }))
   expanding_found hw e t =
       let x : E (node_at s' h) w ≡ true = ap (λ (y : ℕ). E y w) r.node ∙ t in
-      subst (λ (k : ℕ). Expanding E h u level (w + 1) s (finding s' w (k + 1) u)) r.far
-      (subst (λ (y : ℕ). Expanding E h u level (w + 1) s (finding s' w (far_of s' (node_at s' h) + 1) y)) r.node
+      subst (λ (k : ℕ). Expanding E h u level (w + 1) s (finding s' w (record { dist = k + 1; parent = u }))) r.far
+      (subst (λ (y : ℕ). Expanding E h u level (w + 1) s (finding s' w (record { dist = far_of s' (node_at s' h) + 1; parent = y }))) r.node
       (record {
         queue = queue_found E h w s' r.queue r.place hw e x;
         place = omega (arith, r.place);
@@ -193,23 +204,5 @@ module _ (E : ℕ → ℕ → Bool) (h u level w : ℕ) (s s' : Search) (r : Exp
         sources = λ v hv. found_is_no_source E h w s' r.queue r.place hw e x v hv ∙ r.sources v hv;
       }))
 
-  pub expanding_has_room : w < 160 → far_of s' w ≡ 255 → E u w ≡ true → s'.count < 160
+  pub expanding_has_room : w < 160 → step_at s'.steps w ≡ None → E u w ≡ true → s'.count < 160
   expanding_has_room hw e t = find_has_room E h w s' r.queue r.place hw e (ap (λ (y : ℕ). E y w) r.node ∙ t)
-
--- the node at place h was expanded
-pub queue_next : (E : ℕ → ℕ → Bool) (h : ℕ) (s : Search) → Queue E h 160 s → Queue E (h + 1) 0 s
-queue_next E h s r =
-    record {
-      room = r.room;
-      node = r.node;
-      queued = r.queued;
-      sorted = r.sorted;
-      low = λ i j l hi hj. r.low i j (omega arith) hi hj;
-      short = r.short;
-      back = r.back;
-      closed = λ i v hi hv q t. r.closed i v hi hv (⊎_elim (λ l. by i v hv l (cases_lt i h)) (λ z. absurd (omega (arith, z.1))) q) t;
-    }
-  where
-    by : (i v : ℕ) → v < 160 → i < h + 1 → (i < h) ⊎ (h ≤ i) → Looked h 160 i v
-    by i v hv l (inl q) = inl q
-    by i v hv l (inr q) = inr (omega arith, hv)

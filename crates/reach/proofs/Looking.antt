@@ -1,46 +1,29 @@
--- What a distance says of the table.
-use Rattle.std.proofs.Common.{◌≡◌, ℕ, ◌<◌, ◌≤◌, Bool, true, false, cond, eqb, ltb, ◌≢◌, get_or, Some, None, sym, refl, ap, ◌∙◌, arith}
-use Rattle.std.proofs.lemmas.Bool.{ltb-true, eqb-false, eqb-true, cond-true, cond-false, ne_eqb, eq-eqb, lt-ltb, le-ltb}
-use Rattle.reach.specs.declared.table.Reach.{Reach}
-use Rattle.reach.specs.Distances.{distance_of}
+-- What a step says of how far it leads.
+use Rattle.std.proofs.Common.{◌≡◌, ℕ, true, false, ◌≢◌, Some, None, Option, is_some, refl}
+use Rattle.reach.specs.declared.table.Step.{Step}
+use Rattle.reach.specs.Queue.{far}
+use Rattle.reach.specs.Steps.{dist_of}
 
-module _ (reach : Reach) (v : ℕ) where
-  pub distance_some : (n : ℕ) → distance_of reach v ≡ Some n → (v < 160) × (get_or reach.dist v 0 ≡ n) × (n ≢ 255)
-  unfolding distance_of
-  distance_some n e =
-      let t = told (ltb v 160) (eqb (get_or reach.dist v 0) 255) (get_or reach.dist v 0) e in
-      let ne = eqb-false (get_or reach.dist v 0) 255 t.1 in
-      (ltb-true v 160 t.0, t.2, λ q. ne (t.2 ∙ q))
-    where
-      told : (node far : Bool) (d : ℕ) → cond node (cond far None (Some d)) None ≡ Some n → (node ≡ true) × (far ≡ false) × (d ≡ n)
-      told true false d q = (refl, refl, cc)
-      told true true d q = absurd (let z : ◌≡◌ {A = ℕ} 0 1 = cc in omega arith)
-      told false far d q = absurd (let z : ◌≡◌ {A = ℕ} 0 1 = cc in omega arith)
+pub near_is_found : (step : Option Step) → far step ≢ 255 → is_some step ≡ true
+near_is_found None n = absurd (n refl)
+near_is_found (Some t) n = refl
 
-  pub distance_none : distance_of reach v ≡ None → v < 160 → get_or reach.dist v 0 ≡ 255
-  unfolding distance_of
-  distance_none e h = eqb-true _ 255 (told (ltb v 160) (eqb (get_or reach.dist v 0) 255) (get_or reach.dist v 0) (lt-ltb v 160 h) e)
-    where
-      told : (node far : Bool) (d : ℕ) → node ≡ true → cond node (cond far None (Some d)) None ≡ None → far ≡ true
-      told node true d h q = refl
-      told true false d h q = absurd (let z : ◌≡◌ {A = ℕ} 0 1 = cc in omega arith)
-      told false false d h q = absurd (let z : ◌≡◌ {A = ℕ} 0 1 = cc in omega arith)
+pub dist_is_found : (step : Option Step) (n : ℕ) → dist_of step ≡ Some n → is_some step ≡ true
+dist_is_found None n e = cc
+dist_is_found (Some t) n e = refl
 
-  pub distance_is : (n : ℕ) → v < 160 → get_or reach.dist v 0 ≡ n → n ≢ 255 → distance_of reach v ≡ Some n
-  unfolding distance_of
-  distance_is n h e ne =
-      let z : eqb (get_or reach.dist v 0) 255 ≡ false = ne_eqb (get_or reach.dist v 0) 255 (λ q. ne (sym e ∙ q)) in
-      cond-true (ltb v 160) _ _ (lt-ltb v 160 h) ∙ cond-false (eqb (get_or reach.dist v 0) 255) _ _ z ∙ ap Some e
+pub dist_is_far : (step : Option Step) (n : ℕ) → dist_of step ≡ Some n → far step ≡ n
+dist_is_far None n e = cc
+dist_is_far (Some t) n e = cc
 
-  pub distance_of_far : get_or reach.dist v 0 ≡ 255 → distance_of reach v ≡ None
-  unfolding distance_of
-  distance_of_far e = told (ltb v 160) (eqb (get_or reach.dist v 0) 255) (eq-eqb _ 255 e)
-    where
-      told : (node far : Bool) → far ≡ true → cond node (cond far None (Some (get_or reach.dist v 0))) None ≡ None
-      told false far q = refl
-      told true true q = refl
-      told true false q = absurd (let z : ◌≡◌ {A = ℕ} 0 1 = cc in omega arith)
+pub far_is_dist : (step : Option Step) (n : ℕ) → far step ≡ n → n ≢ 255 → dist_of step ≡ Some n
+far_is_dist None n e ne = absurd (ne (cc))
+far_is_dist (Some t) n e ne = cc
 
-  pub distance_of_none : 160 ≤ v → distance_of reach v ≡ None
-  unfolding distance_of
-  distance_of_none h = cond-false (ltb v 160) _ _ (le-ltb v 160 h)
+pub not_found : (step : Option Step) → is_some step ≡ false → step ≡ None
+not_found None e = refl
+not_found (Some t) e = cc
+
+pub no_dist_is_none : (step : Option Step) → dist_of step ≡ None → step ≡ None
+no_dist_is_none None e = refl
+no_dist_is_none (Some t) e = cc

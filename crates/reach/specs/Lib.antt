@@ -1,4 +1,5 @@
 pub mod Walks
+pub mod Steps
 pub mod Rooted
 pub mod Distances
 pub mod Trails

@@ -5,28 +5,25 @@ ghost use Rattle.reach.specs.Queue.{finding, Started, Queue, SameSources};
 ghost use Rattle.reach.specs.Walks.{among, Found};
 
 use crate::graph::{Graph, NODES};
-use crate::table::{FAR, Reach};
+use crate::table::{Reach, Step};
 
-// A search under way.
+// A search under way: the last step to each node that is found, and those nodes in the order in which they were found.
+// The crate rests on std alone, so the queue is an array with its count beside it, and a search allocates nothing.
 #[derive(Drop)]
 struct Search {
-    dist: [u8; NODES],
-    parent: [u8; NODES],
-    // the nodes that are found, in the order in which they were, and how many they are
+    steps: [Option<Step>; NODES],
     queue: [u8; NODES],
     count: usize,
 }
 
 impl Search {
-    // Finds a node, at a distance and by an edge from another node.
-    fn find(&mut self, v: usize, dist: u8, parent: usize)
+    // Finds a node by a step.
+    fn find(&mut self, v: usize, step: Step)
         requires node { v < 160 }
-        requires before { parent < 160 }
         requires room { self.old.count < 160 }
-        ensures { self.new ≡ finding self.old v dist parent }
+        ensures { self.new ≡ finding self.old v step }
     {
-        self.dist[v] = dist;
-        self.parent[v] = parent as u8;
+        self.steps[v] = Some(step);
         self.queue[self.count] = v as u8;
         self.count += 1;
     }
@@ -37,14 +34,19 @@ fn start(from: &[bool; NODES]) -> Search
     ensures { Started (among from.now) 160 result }
 {
     let mut search = Search {
-        dist: [FAR; NODES],
-        parent: [0; NODES],
+        steps: [None; NODES],
         queue: [0; NODES],
         count: 0,
     };
-    for v in 0..NODES {
-        if from[v] {
-            search.find(v, 0, v);
+    for (v, &is_source) in from.iter().enumerate() {
+        if is_source {
+            search.find(
+                v,
+                Step {
+                    dist: 0,
+                    parent: v as u8,
+                },
+            );
         }
     }
     search
@@ -57,11 +59,18 @@ fn expand<G: Graph>(graph: &G, place: usize, search: &mut Search)
     ensures queue { Queue (G.edge graph.now) (place + 1) 0 search.new }
     ensures sources { SameSources search.old search.new }
 {
-    let u = search.queue[place] as usize;
-    let level = search.dist[u];
+    let u = search.queue[place];
+    let level = search.steps[u as usize].unwrap().dist;
+    // A node that is found is written into the table that is read, so the loop goes over numbers.
     for v in 0..NODES {
-        if search.dist[v] == FAR && graph.linked(u, v) {
-            search.find(v, level + 1, u);
+        if search.steps[v].is_none() && graph.linked(u as usize, v) {
+            search.find(
+                v,
+                Step {
+                    dist: level + 1,
+                    parent: u,
+                },
+            );
         }
     }
 }
@@ -71,13 +80,13 @@ pub fn explore<G: Graph>(graph: &G, from: &[bool; NODES]) -> Reach
     ensures { Found (among from.now) (G.edge graph.now) (distance_of result) (parent_of result) }
 {
     let mut search = start(from);
+    // The queue grows while it is gone through, so its places are counted.
     let mut place = 0;
     while place < search.count {
         expand(graph, place, &mut search);
         place += 1;
     }
     Reach {
-        dist: search.dist,
-        parent: search.parent,
+        steps: search.steps,
     }
 }

@@ -3,14 +3,17 @@ ghost use Rattle.reach.specs.Rooted.{Short, Rooted};
 
 use crate::graph::NODES;
 
-// The distance of a node that no walk leads to.
-pub(crate) const FAR: u8 = 255;
+// How far a node is from the nearest source, and the node before it on a shortest walk.
+#[derive(Clone, Copy)]
+pub(crate) struct Step {
+    pub(crate) dist: u8,
+    pub(crate) parent: u8,
+}
 
-// How far each node is from the nearest source, and the node before it on a shortest walk.
+// The last step to each node; none where no walk leads.
 #[derive(Drop)]
 pub struct Reach {
-    pub(crate) dist: [u8; NODES],
-    pub(crate) parent: [u8; NODES],
-    ghost short: { Short dist },
-    ghost rooted: { Rooted dist parent },
+    pub(crate) steps: [Option<Step>; NODES],
+    ghost short: { Short steps },
+    ghost rooted: { Rooted steps },
 }

@@ -29,11 +29,6 @@ stop_of (refusal.Denied pair) = stop.Refused (reason_of (refusal.Denied pair))
 stop_of refusal.NoPassage = stop.Refused (reason_of refusal.NoPassage)
 stop_of refusal.Memory = stop.Memory
 
--- the call goes on at this position if the tables did what was asked
-abbrev pub goes_on : Result (Unit {0}) Refusal → Position → Result Position Stop
-goes_on (Ok u) next = Ok next
-goes_on (Err e) next = Err (stop_of e)
-
 -- A call that takes a token and leaves `after`: it goes on, or stops at the fault, or memory is wanting.
 abbrev pub Steps : Next → Result Position Stop → Composed → Type 0
 Steps due (Ok next) after = due ≡ Ok (after, next)

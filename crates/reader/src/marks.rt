@@ -1,6 +1,6 @@
 //! Brackets and ends of lines.
 ghost use Rattle.std.specs.Prelude.{◌≡◌, Ok, Err};
-ghost use Rattle.reader.specs.Statements.{behind, meet, fit, misfit, on_mark, line_end, opening, closing};
+ghost use Rattle.reader.specs.Statements.{behind, meet, fit, misfit, on_mark};
 
 use crate::position::{Group, Position};
 use crate::reason::Reason;
@@ -19,41 +19,15 @@ fn behind(group: Group, dom: Dom) -> Position
     }
 }
 
-fn ends_line(mark: Mark) -> Option<Position>
-    ensures { result ≡ meet line_end mark }
-{
-    match mark {
-        Mark::End | Mark::Last => Some(Position::Start),
-        _ => None,
-    }
-}
-
-fn opens(mark: Mark, next: Position) -> Option<Position>
-    ensures { result ≡ meet (opening next) mark }
-{
-    match mark {
-        Mark::Open => Some(next),
-        _ => None,
-    }
-}
-
-fn closes(mark: Mark, next: Position) -> Option<Position>
-    ensures { result ≡ meet (closing next) mark }
-{
-    match mark {
-        Mark::Close => Some(next),
-        _ => None,
-    }
-}
-
 // Where the mark leads, if it fits.
 fn meets(position: Position, mark: Mark) -> Option<Position>
     ensures { result ≡ meet (fit position) mark }
 {
-    match position {
-        Position::Start | Position::MoreNames(_) | Position::LineEnd => ends_line(mark),
-        Position::Open(group, dom) => opens(mark, Position::Within(group, dom)),
-        Position::Within(group, dom) => closes(mark, behind(group, dom)),
+    match (position, mark) {
+        (Position::Start | Position::MoreNames(_) | Position::LineEnd, Mark::End | Mark::Last) =>
+            Some(Position::Start),
+        (Position::Open(group, dom), Mark::Open) => Some(Position::Within(group, dom)),
+        (Position::Within(group, dom), Mark::Close) => Some(behind(group, dom)),
         _ => None,
     }
 }
@@ -71,6 +45,7 @@ fn misfit(mark: Mark) -> Reason
 pub(crate) fn on_mark(position: Position, mark: Mark) -> Result<Position, Reason>
     ensures { result ≡ on_mark position mark }
 {
+    // A mark that does not fit goes by let .. else into the fault, as a lacking arrow and a name that was not found do.
     let Some(next) = meets(position, mark) else {
         return Err(misfit(mark));
     };

@@ -1,32 +1,28 @@
-//! Names and paths in statements.
-ghost use Rattle.std.specs.Prelude.{◌≡◌};
+//! Declared names in statements.
+ghost use Rattle.std.specs.Prelude.{◌≡◌, cond, Err};
+ghost use Rattle.label.specs.Tests.{is_name as name_test};
 ghost use Rattle.reader.specs.Composed.{composed};
-ghost use Rattle.reader.specs.Statements.{type_named, domain_named, new_name, a_path};
+ghost use Rattle.reader.specs.Statements.{type_named, domain_named, or_refuse};
+ghost use Rattle.reader.specs.declared.reason.Reason.TheVariants.{Misshapen, Undeclared};
 
 use crate::composition::Composition;
 use crate::reason::Reason;
-use label::name::Name;
 use label::names::is_name;
 use label::numbers::{Dom, Typ};
-use label::path::Path;
 
-// A new name.
-pub(crate) fn new_name(word: &[u8]) -> Result<Name, Reason>
-    ensures { result ≡ new_name word.now }
+// What the word stands for, where `found` is what was declared with it: what is no name is refused first.
+#[tactic(auto, using(crate::proofs::Looks::is_a_name, crate::proofs::Looks::is_no_name))]
+fn declared<T: Copy>(word: &[u8], found: Option<T>) -> Result<T, Reason>
+    ensures { result ≡ cond (name_test word.now) (or_refuse Undeclared found) (Err Misshapen) }
 {
-    let Ok(name) = Name::parse(word) else {
+    if !is_name(word) {
         return Err(Reason::Misshapen);
+    }
+    // A name that was not found goes by let .. else into the fault, as a lacking arrow and a mark that does not fit do.
+    let Some(named) = found else {
+        return Err(Reason::Undeclared);
     };
-    Ok(name)
-}
-
-pub(crate) fn a_path(word: &[u8]) -> Result<Path, Reason>
-    ensures { result ≡ a_path word.now }
-{
-    let Ok(path) = Path::parse(word) else {
-        return Err(Reason::Misshapen);
-    };
-    Ok(path)
+    Ok(named)
 }
 
 impl Composition {
@@ -34,25 +30,13 @@ impl Composition {
     pub(crate) fn type_named(&self, word: &[u8]) -> Result<Typ, Reason>
         ensures { result ≡ type_named (composed self.now) word.now }
     {
-        if !is_name(word) {
-            return Err(Reason::Misshapen);
-        }
-        let Some(typ) = self.tables.type_named(word) else {
-            return Err(Reason::Undeclared);
-        };
-        Ok(typ)
+        declared(word, self.tables.type_named(word))
     }
 
     // A declared domain.
     pub(crate) fn domain_named(&self, word: &[u8]) -> Result<Dom, Reason>
         ensures { result ≡ domain_named (composed self.now) word.now }
     {
-        if !is_name(word) {
-            return Err(Reason::Misshapen);
-        }
-        let Some(dom) = self.tables.domain_named(word) else {
-            return Err(Reason::Undeclared);
-        };
-        Ok(dom)
+        declared(word, self.tables.domain_named(word))
     }
 }

@@ -5,7 +5,7 @@ ghost use Rattle.tables.specs.Model.{model};
 ghost use Rattle.reader.specs.Composed.{composed};
 ghost use Rattle.reader.specs.Reading.{read as read_after};
 ghost use Rattle.reader.specs.Statements as due;
-ghost use Rattle.reader.specs.Stops.{Steps, Ends, Reads, halt_at};
+ghost use Rattle.reader.specs.Stops.{Steps, Ends, Reads};
 
 use crate::composition::Composition;
 use crate::marks::on_mark;
@@ -15,15 +15,6 @@ use scan::scanner::Scanner;
 use scan::token::{Mark, Placed, Token};
 use std::alloc::Global;
 use tables::table::Tables;
-
-fn halt_at(stop: Stop, place: usize) -> Halt
-    ensures { result ≡ halt_at stop place }
-{
-    match stop {
-        Stop::Memory => Halt::Memory,
-        Stop::Refused(reason) => Halt::At(reason, place),
-    }
-}
 
 impl Composition {
     // The tables, and which domains had their `spec_domain`.
@@ -40,10 +31,7 @@ impl Composition {
     {
         match token {
             Token::Word(word) => self.on_word(position, word),
-            Token::Sign(mark) => {
-                let next = on_mark(position, mark)?;
-                Ok(next)
-            }
+            Token::Sign(mark) => Ok(on_mark(position, mark)?),
         }
     }
 
@@ -55,9 +43,10 @@ impl Composition {
         let mut position = Position::Start;
         loop {
             let placed = scanner.next();
+            // What goes on and what stops are one match, as the loop's invariant tells them apart.
             match self.take(position, placed.token) {
                 Ok(next) => position = next,
-                Err(stop) => return Err(halt_at(stop, placed.place)),
+                Err(stop) => return Err(stop.at(placed.place)),
             }
             if is_last(placed) {
                 return Ok(());
@@ -69,10 +58,7 @@ impl Composition {
 fn is_last(placed: Placed) -> bool
     ensures { result ≡ is_last (piece placed.entry) }
 {
-    match placed.token {
-        Token::Sign(Mark::Last) => true,
-        _ => false,
-    }
+    matches!(placed.token, Token::Sign(Mark::Last))
 }
 
 // The tables with what the text says joined to a copy of them, or the text's first fault. `specified` has the domains that
@@ -85,11 +71,8 @@ pub fn read(
 ) -> Result<Composition, Halt>
     ensures { Reads (read_after (record { tables = model tables.now; specified = specified.now }) text.now) result }
 {
-    let Ok(tables) = tables.copy(heap) else {
-        return Err(Halt::Memory);
-    };
     let mut composition = Composition {
-        tables,
+        tables: tables.copy(heap)?,
         specified: *specified,
     };
     composition.join(text)?;

@@ -4,7 +4,7 @@ ghost use Rattle.reader.specs.Reasons.{number, layer};
 
 use label::numbers::{Dom, Typ};
 
-#[derive(Clone, Copy)]
+#[derive(Clone, Copy, PartialEq, Eq, Debug)]
 pub enum Reason {
     // a byte that may not stand outside a comment
     Stray,

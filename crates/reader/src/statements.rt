@@ -5,10 +5,9 @@ ghost use Rattle.reader.specs.Statements as due;
 ghost use Rattle.reader.specs.Stops.{Steps};
 
 use crate::composition::Composition;
-use crate::names::{a_path, new_name};
 use crate::position::{Group, Position, Sort};
 use crate::reason::Reason;
-use crate::stop::{Stop, go_on};
+use crate::stop::Stop;
 use label::name::Name;
 use label::numbers::{Dom, Typ};
 use label::path::Path;
@@ -26,22 +25,17 @@ impl Composition {
         ensures { Steps (due.declare (composed self.old) sort name) result (composed self.new) }
     {
         match sort {
-            Sort::Types => go_on(
-                self.tables.declare_type(name),
-                Position::MoreNames(Sort::Types),
-            ),
-            Sort::Domains => go_on(
-                self.tables.declare_domain(name),
-                Position::MoreNames(Sort::Domains),
-            ),
+            Sort::Types => self.tables.declare_type(name)?,
+            Sort::Domains => self.tables.declare_domain(name)?,
         }
+        Ok(Position::MoreNames(sort))
     }
 
     // types NAME.. and domains NAME..
     fn name_word(&mut self, sort: Sort, word: &[u8]) -> Result<Position, Stop>
         ensures { Steps (due.name_word (composed self.old) sort word.now) result (composed self.new) }
     {
-        let name = new_name(word)?;
+        let name = Name::parse(word)?;
         self.declare(sort, name)
     }
 
@@ -50,16 +44,18 @@ impl Composition {
         ensures { Steps (due.default_word (composed self.old) word.now) result (composed self.new) }
     {
         let dom = self.domain_named(word)?;
-        go_on(self.tables.set_default(dom), Position::LineEnd)
+        self.tables.set_default(dom)?;
+        Ok(Position::LineEnd)
     }
 
     fn specify(&mut self, dom: Dom) -> Result<Position, Stop>
         ensures { Steps (due.specify (composed self.old) dom) result (composed self.new) }
     {
+        // A number beyond the marks is no domain's. A mark lent by `get_mut` would tell nothing of the marks after it.
         let d = dom.0 as usize;
         if d < 32 {
             if self.specified[d] {
-                return Err(Stop::Refused(Reason::Repeated));
+                return Err(Reason::Repeated.into());
             }
             self.specified[d] = true;
         }
@@ -86,11 +82,9 @@ impl Composition {
     fn entry_word(&mut self, dom: Dom, word: &[u8]) -> Result<Position, Stop>
         ensures { Steps (due.entry_word (composed self.old) dom word.now) result (composed self.new) }
     {
-        let path = a_path(word)?;
-        go_on(
-            self.tables.add_entry(Entry { dom, path }),
-            Position::Within(Group::Entries, dom),
-        )
+        let path = Path::parse(word)?;
+        self.tables.add_entry(Entry { dom, path })?;
+        Ok(Position::Within(Group::Entries, dom))
     }
 
     // LETTERS->TYPE
@@ -98,16 +92,12 @@ impl Composition {
         ensures { Steps (due.rights_word (composed self.old) dom word.now) result (composed self.new) }
     {
         let Some((letters, name)) = split_arrow(word) else {
-            return Err(Stop::Refused(Reason::Misfit));
+            return Err(Reason::Misfit.into());
         };
         let typ = self.type_named(name)?;
-        let Some(rights) = letters_of(letters) else {
-            return Err(Stop::Refused(Reason::Letters));
-        };
-        go_on(
-            self.tables.add_rights(dom, typ, rights),
-            Position::Within(Group::Rights, dom),
-        )
+        let rights = letters_of(letters).ok_or(Reason::Letters)?;
+        self.tables.add_rights(dom, typ, rights)?;
+        Ok(Position::Within(Group::Rights, dom))
     }
 
     // auto->DOMAIN or exec->DOMAIN
@@ -115,16 +105,12 @@ impl Composition {
         ensures { Steps (due.passage_word (composed self.old) dom word.now) result (composed self.new) }
     {
         let Some((way, name)) = split_arrow(word) else {
-            return Err(Stop::Refused(Reason::Misfit));
+            return Err(Reason::Misfit.into());
         };
-        let Some(how) = passage_of(way) else {
-            return Err(Stop::Refused(Reason::Misfit));
-        };
+        let how = passage_of(way).ok_or(Reason::Misfit)?;
         let to = self.domain_named(name)?;
-        go_on(
-            self.tables.add_passage(dom, how, to),
-            Position::Within(Group::Passages, dom),
-        )
+        self.tables.add_passage(dom, how, to)?;
+        Ok(Position::Within(Group::Passages, dom))
     }
 
     // A word of a group of the domain.
@@ -135,7 +121,7 @@ impl Composition {
             Group::Entries => self.entry_word(dom, word),
             Group::Rights => self.rights_word(dom, word),
             Group::Passages => self.passage_word(dom, word),
-            Group::Signals => Err(Stop::Refused(Reason::Signals)),
+            Group::Signals => Err(Reason::Signals.into()),
         }
     }
 
@@ -148,20 +134,17 @@ impl Composition {
             path,
             typ: Typ(0),
         };
-        let done = match self.tables.rules().refuses(rule) {
-            Some(refusal) => Err(refusal),
-            None => Ok(()),
-        };
-        go_on(done, Position::RuleType(flag, path))
+        if let Some(refusal) = self.tables.rules().refuses(rule) {
+            return Err(refusal.into());
+        }
+        Ok(Position::RuleType(flag, path))
     }
 
     // assign FLAG
     fn flag_word(&self, word: &[u8]) -> Result<Position, Stop>
         ensures { Steps (due.flag_word (composed self.now) word.now) result (composed self.now) }
     {
-        let Some(flag) = flag_of(word) else {
-            return Err(Stop::Refused(Reason::Misfit));
-        };
+        let flag = flag_of(word).ok_or(Reason::Misfit)?;
         Ok(Position::RulePath(flag))
     }
 
@@ -169,7 +152,7 @@ impl Composition {
     fn rule_path(&self, flag: Flag, word: &[u8]) -> Result<Position, Stop>
         ensures { Steps (due.rule_path (composed self.now) flag word.now) result (composed self.now) }
     {
-        let path = a_path(word)?;
+        let path = Path::parse(word)?;
         self.begin_rule(flag, path)
     }
 
@@ -178,18 +161,17 @@ impl Composition {
         ensures { Steps (due.rule_type (composed self.old) flag path word.now) result (composed self.new) }
     {
         let typ = self.type_named(word)?;
-        go_on(
-            self.tables.add_rule(Rule { flag, path, typ }),
-            Position::LineEnd,
-        )
+        self.tables.add_rule(Rule { flag, path, typ })?;
+        Ok(Position::LineEnd)
     }
 
     // object PATH
     fn object_word(&mut self, word: &[u8]) -> Result<Position, Stop>
         ensures { Steps (due.object_word (composed self.old) word.now) result (composed self.new) }
     {
-        let path = a_path(word)?;
-        go_on(self.tables.add_object(path), Position::LineEnd)
+        let path = Path::parse(word)?;
+        self.tables.add_object(path)?;
+        Ok(Position::LineEnd)
     }
 
     // apart
@@ -197,7 +179,7 @@ impl Composition {
         ensures { Steps (due.begin_apart (composed self.now)) result (composed self.now) }
     {
         if self.tables.aparts().len() >= 128 {
-            return Err(Stop::Refused(Reason::Full));
+            return Err(Reason::Full.into());
         }
         Ok(Position::ApartFrom)
     }
@@ -215,7 +197,8 @@ impl Composition {
         ensures { Steps (due.apart_to (composed self.old) from word.now) result (composed self.new) }
     {
         let to = self.type_named(word)?;
-        go_on(self.tables.add_apart(Apart { from, to }), Position::LineEnd)
+        self.tables.add_apart(Apart { from, to })?;
+        Ok(Position::LineEnd)
     }
 
     // The first word of a statement.
@@ -227,7 +210,7 @@ impl Composition {
             Keyword::Domains => Ok(Position::Name(Sort::Domains)),
             Keyword::DefaultDomain => {
                 if self.tables.first().is_some() {
-                    return Err(Stop::Refused(Reason::Repeated));
+                    return Err(Reason::Repeated.into());
                 }
                 Ok(Position::DefaultDomain)
             }
@@ -243,9 +226,7 @@ impl Composition {
     fn first_word(&self, word: &[u8]) -> Result<Position, Stop>
         ensures { Steps (due.first_word (composed self.now) word.now) result (composed self.now) }
     {
-        let Some(keyword) = keyword_of(word) else {
-            return Err(Stop::Refused(Reason::Misfit));
-        };
+        let keyword = keyword_of(word).ok_or(Reason::Misfit)?;
         self.begin(keyword)
     }
 
@@ -255,8 +236,7 @@ impl Composition {
     {
         match position {
             Position::Start => self.first_word(word),
-            Position::Name(sort) => self.name_word(sort, word),
-            Position::MoreNames(sort) => self.name_word(sort, word),
+            Position::Name(sort) | Position::MoreNames(sort) => self.name_word(sort, word),
             Position::DefaultDomain => self.default_word(word),
             Position::Specified => self.specified_word(word),
             Position::Widened => self.widened_word(word),
@@ -267,8 +247,7 @@ impl Composition {
             Position::ObjectPath => self.object_word(word),
             Position::ApartFrom => self.apart_from(word),
             Position::ApartTo(from) => self.apart_to(from, word),
-            Position::Open(_, _) => Err(Stop::Refused(Reason::Misfit)),
-            Position::LineEnd => Err(Stop::Refused(Reason::Misfit)),
+            Position::Open(_, _) | Position::LineEnd => Err(Reason::Misfit.into()),
         }
     }
 }

@@ -1,9 +1,10 @@
 -- Rules stay distinct when one is added that none was like.
-use Rattle.std.proofs.Common.{◌≡◌, ℕ, ◌<◌, ◌≤◌, Bool, true, false, cond, not, ◌&&◌, leb, List, [], ◌∷◌, ◌++◌, length, is_some, Some, None, Option, sym, refl, ap, ◌∙◌, arith}
-use Rattle.std.proofs.lemmas.List.{length_push}
+use Rattle.std.proofs.Common.{◌≡◌, ℕ, ◌<◌, Bool, true, false, cond, not, ◌&&◌, leb, List, [], ◌∷◌, ◌++◌, is_some, Some, None, Option, sym, refl, ap, ◌∙◌, arith}
 use Rattle.std.proofs.lemmas.Slice.Eq.{bytes_eq-Decides}
 use Rattle.std.proofs.lemmas.Bool.{cond-false, cond_both, and_parts, and_from, not-true, true≢false, leb-false}
 use Rattle.std.proofs.lemmas.Bool.Decides.{same_from_decides, Decides-like}
+use Rattle.std.proofs.lemmas.List.Folds.{find-append}
+use Rattle.std.specs.Option.{option_or}
 use Rattle.std.specs.Str.{bytes_eq}
 use Rattle.label.specs.Refusals.{refuses_more}
 use Rattle.label.specs.Texts.{text}
@@ -27,10 +28,11 @@ none_first false r o e = (refl, e)
 
 none_push : (rs : List Rule) (r : Rule) (f : Flag) (p : List ℕ) → is_some (rule_on rs f p) ≡ false → stands_on r f p ≡ false → is_some (rule_on (rs ++ r ∷ []) f p) ≡ false
 unfolding rule_on
-none_push [] r f p e n = ap is_some (cond-false (stands_on r f p) (Some r) None n)
-none_push (x ∷ rs) r f p e n =
-    let h = none_first (stands_on x f p) x (rule_on rs f p) e in
-    ap is_some (cond-false _ _ _ h.0) ∙ none_push rs r f p h.1 n
+none_push rs r f p e n = ap is_some (find-append (λ x. stands_on x f p) rs (r ∷ [])) ∙ neither (rule_on rs f p) (stands_on r f p) e n
+  where
+    neither : (o : Option Rule) (b : Bool) → is_some o ≡ false → b ≡ false → is_some (option_or o (cond b (Some r) None)) ≡ false
+    neither None b e n = ap is_some (cond-false b (Some r) None n)
+    neither (Some x) b e n = e
 
 distinct_push : (rs : List Rule) (r : Rule) → distinct rs ≡ true → is_some (rule_on rs r.flag (text r.path)) ≡ false → distinct (rs ++ r ∷ []) ≡ true
 unfolding rule_on
@@ -53,9 +55,3 @@ not_refused false count limit e = (refl, below (leb limit count) refl e)
     below : (b : Bool) → leb limit count ≡ b → None ≡ cond b (Some Full) None → count < limit
     below true t e = absurd (let z : ◌≡◌ {A = ℕ} 0 1 = cc in omega arith)
     below false t e = leb-false limit count t
-
-pub few_after_push : (rs after : List Rule) (r : Rule) (b : Bool) (n : ℕ) → n ≡ length after → after ≡ cond b (rs ++ r ∷ []) rs → length rs < 256 → n ≤ 256
-few_after_push rs after r b n en e l =
-    let k : length (cond b (rs ++ r ∷ []) rs) ≤ 256 =
-    cond_both b (rs ++ r ∷ []) rs (λ x. length x ≤ 256) (λ _. let h = length_push rs r in omega (arith, h)) (λ _. omega arith) in
-    omega (arith, en, ap length e, k)

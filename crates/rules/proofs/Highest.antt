@@ -1,9 +1,8 @@
 -- The rule of the highest rank is the rule that decides.
-use Rattle.std.proofs.Common.{◌≡◌, ℕ, zero, suc, ◌+◌, ◌-◌, ◌*◌, ◌<◌, ◌≤◌, Bool, true, false, cond, ◌&&◌, ◌||◌, eqb, ltb, ◌⊎◌, List, [], ◌∷◌, length, get_or, take, drop, Some, None, Decides, Option, sym, refl, ap, ◌∙◌, subst, inl, inr, ⊎_elim, arith}
+use Rattle.std.proofs.Common.{◌≡◌, ℕ, zero, suc, ◌+◌, ◌*◌, ◌<◌, ◌≤◌, Bool, true, false, cond, ◌&&◌, ◌||◌, eqb, ltb, ◌⊎◌, List, [], ◌∷◌, length, get_or, take, drop, Some, None, Decides, Option, sym, refl, ap, ◌∙◌, subst, inl, inr, ⊎_elim, arith}
 use Rattle.std.proofs.lemmas.List.{at_drop_more, at_drop_all, take_all, length-take-le}
 use Rattle.std.proofs.lemmas.Bool.{cases_Bool, cases_eq, and_parts, and_from, cond-true, cond-false, lt-ltb, le-ltb, ltb-true, ltb-false, eq-eqb, ne_eqb, eqb-true, or_cases}
 use Rattle.std.specs.Option.{option_or}
-use Rattle.std.specs.Str.{bytes_eq}
 use Rattle.std.proofs.lemmas.Slice.Eq.{bytes_eq-Decides}
 use Rattle.std.proofs.lemmas.Bool.Decides.{same_from_decides, Decides-and}
 use Rattle.label.specs.Paths.{ancestor}
@@ -287,11 +286,3 @@ module _ (rs : List Rule) (p : List ℕ) (i : ℕ) (r : Rule) (k : ℕ) (o : Opt
 pub highest_at_end : (rs : List Rule) (p : List ℕ) (i k : ℕ) (o : Option Rule) → length rs ≤ i → highest (drop i rs) p k o ≡ highest rs p 0 None → o ≡ deciding rs p
 unfolding highest
 highest_at_end rs p i k o l inv = sym (at_drop_all (λ x. highest x p k o) rs i l) ∙ inv ∙ highest_decides rs p
-
-pub covers_by : (r : Rule) (p own : List ℕ) (b : Bool) → own ≡ text r.path → reaches p (length own) ≡ true → b ≡ bytes_eq own (take (length own - 0) p) → b ≡ covers r p
-covers_by r p own b e t d =
-    let z : length own - 0 ≡ length own = omega arith in
-    d
-    ∙ ap (λ m. bytes_eq own (take m p)) z
-    ∙ ap (λ x. x && bytes_eq own (take (length own) p)) (sym t)
-    ∙ ap (λ x. reaches p (length x) && bytes_eq x (take (length x) p)) e

@@ -2,4 +2,4 @@ pub mod Finds
 pub mod Highest
 pub mod Adds
 pub mod Lawful
-pub mod Same
+pub mod Covers

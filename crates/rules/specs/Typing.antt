@@ -1,6 +1,7 @@
 -- The type that rules give a path.
-use Rattle.std.specs.Prelude.{ℕ, zero, suc, Bool, true, false, cond, not, ◌&&◌, List, [], ◌∷◌, length, take, is_some, Some, None, Option}
+use Rattle.std.specs.Prelude.{ℕ, zero, suc, Bool, true, false, cond, not, ◌&&◌, List, [], ◌∷◌, length, take, is_some, None, Option}
 use Rattle.std.specs.Option.{option_or, option_map}
+use Rattle.std.specs.List.{find}
 use Rattle.std.specs.Str.{bytes_eq}
 use Rattle.label.specs.Paths.{ancestor}
 use Rattle.label.specs.Texts.{text}
@@ -26,8 +27,7 @@ stands_on r f p = same_flag r.flag f && bytes_eq (text r.path) p
 
 -- the first rule that does
 unfoldable pub rule_on : List Rule → Flag → List ℕ → Option Rule
-rule_on [] f p = None
-rule_on (r ∷ rs) f p = cond (stands_on r f p) (Some r) (rule_on rs f p)
+rule_on rs f p = find (λ r. stands_on r f p) rs
 
 -- no two rules have the same flag and path
 abbrev pub distinct : List Rule → Bool

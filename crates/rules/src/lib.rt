@@ -9,15 +9,13 @@ ghost use Rattle.rules.specs.Held.{rules_of, refusal_of};
 ghost use Rattle.rules.specs.Ranks.{reaches, covers, strength, claim};
 ghost use Rattle.rules.specs.Laws.{Laws};
 
-use crate::bytes::are_same;
 use crate::rule::{Flag, Rule};
 use crate::table::Rules;
 use label::numbers::Typ;
 use label::paths::is_ancestor;
-use label::refusal::Refusal;
+use label::refusal::{Refusal, refuses_more};
 use std::alloc::{AllocError, Global};
 
-pub mod bytes;
 pub mod rule;
 pub mod table;
 
@@ -41,8 +39,7 @@ impl Rule {
         ensures { result ≡ covers self.now path.now }
     {
         let own = self.path.as_bytes();
-        let n = own.len();
-        reaches(path, n) && are_same(own, &path[0..n])
+        reaches(path, own.len()) && path.starts_with(own)
     }
 
     // How strongly the rule speaks on the type of the path, if it covers the path.
@@ -58,15 +55,15 @@ impl Rule {
 }
 
 // Not at all, or more the longer the rule's path is, and at one length more where the rule goes before an -r rule.
+// The rank of a rule is a number in the definitions, 0 where it does not speak of the path, and the code has the same.
 fn strength(flag: Flag, whole: bool, n: usize) -> usize
     requires { n ≤ 64 }
     ensures { result ≡ strength flag whole n }
 {
-    match flag {
-        Flag::R => 2 * n + 1,
-        Flag::E if whole => 2 * n + 2,
-        Flag::U if !whole => 2 * n + 2,
-        _ => 0,
+    match (flag, whole) {
+        (Flag::R, _) => 2 * n + 1,
+        (Flag::E, true) | (Flag::U, false) => 2 * n + 2,
+        (Flag::E, false) | (Flag::U, true) => 0,
     }
 }
 
@@ -90,37 +87,28 @@ impl Rules {
     pub fn find(&self, flag: Flag, path: &[u8]) -> Option<Rule>
         ensures { result ≡ rule_on (rules_of self.now) flag path.now }
     {
-        for rule in self.list.iter() {
-            if rule.stands_on(flag, path) {
-                return Some(*rule);
-            }
-        }
-        None
+        self.list
+            .iter()
+            .find(|rule| rule.stands_on(flag, path))
+            .copied()
     }
 
     // Why one more rule is refused: one has its flag and path, or there are 256.
+    // It answers the refusal itself, since a rule may be asked about before its type is known.
     pub fn refuses(&self, rule: Rule) -> Option<Refusal>
         ensures { result ≡ refusal_of (rules_of self.now) rule }
     {
-        if self.find(rule.flag, rule.path.as_bytes()).is_some() {
-            return Some(Refusal::Repeated);
-        }
-        if self.list.len() >= 256 {
-            return Some(Refusal::Full);
-        }
-        None
+        let there = self.find(rule.flag, rule.path.as_bytes()).is_some();
+        refuses_more(there, self.list.len(), 256)
     }
 
     // Adds a rule, unless it is refused.
     pub fn add(&mut self, rule: Rule) -> Result<(), Refusal>
         ensures { Takes (refusal_of (rules_of self.old) rule) (rules_of self.old) (rules_of self.old ++ rule ∷ []) result (rules_of self.new) }
     {
-        if let Some(refusal) = self.refuses(rule) {
-            return Err(refusal);
-        }
-        match self.list.push(rule) {
-            Ok(()) => Ok(()),
-            Err(_) => Err(Refusal::Memory),
+        match self.refuses(rule) {
+            Some(refusal) => Err(refusal),
+            None => Ok(self.list.push(rule)?),
         }
     }
 
@@ -129,6 +117,7 @@ impl Rules {
         ensures { result ≡ deciding (rules_of self.now) path.now }
     {
         let mut best = None;
+        // The claim of the best so far, so that it is reckoned once for each rule.
         let mut most = 0;
         for rule in self.list.iter() {
             let claim = rule.claim(path);
@@ -144,13 +133,10 @@ impl Rules {
     pub fn type_of(&self, path: &[u8]) -> Option<Typ>
         ensures { result ≡ type_of (rules_of self.now) path.now }
     {
-        match self.deciding(path) {
-            Some(rule) => Some(rule.typ),
-            None => None,
-        }
+        self.deciding(path).map(|rule| rule.typ)
     }
 
-    // A copy of the rules, in memory of its own.
+    // A copy of the rules, in memory of its own. The caller names the memory, which `clone` has no way to take.
     pub fn copy(&self, heap: Global) -> Result<Rules, AllocError>
         ensures { IfOk result (λ c. rules_of c ≡ rules_of self.now) }
     {

@@ -1,5 +1,5 @@
 -- Which bytes are bytes of a word, and what the others do.
-use Rattle.std.proofs.Common.{◌≡◌, ℕ, Bool, true, false, cond, eqb, List, sym, refl, ap, ◌∙◌, subst, arith}
+use Rattle.std.proofs.Common.{◌≡◌, ℕ, Bool, true, false, eqb, List, sym, refl, ap, ◌∙◌, arith}
 use Rattle.scan.specs.declared.step.Class.{Class}
 use Rattle.scan.specs.declared.step.Class.TheVariants as class
 use Rattle.scan.specs.Bytes.{class_of, class_at, feeds, word_byte}
@@ -10,21 +10,9 @@ use Rattle.scan.specs.Steps.{deed, is_plain}
 use Rattle.scan.specs.Steps.Deed.{pass, begin, give}
 use Rattle.std.proofs.lemmas.Bool.{eqb-true, cond_both}
 
-plain_first : (w s t f h k o c j : Bool) → is_plain (cond w class.Plain (cond s class.Space (cond t class.Space (cond f class.Feed (cond h class.Hash (cond k (cond j class.Join class.Stray) (cond o class.Open (cond c class.Close class.Stray)))))))) ≡ w
-plain_first true s t f h k o c j = refl
-plain_first false true t f h k o c j = refl
-plain_first false false true f h k o c j = refl
-plain_first false false false true h k o c j = refl
-plain_first false false false false true k o c j = refl
-plain_first false false false false false true o c true = refl
-plain_first false false false false false true o c false = refl
-plain_first false false false false false false true c j = refl
-plain_first false false false false false false false true j = refl
-plain_first false false false false false false false false j = refl
-
 -- the bytes of words are those of the class Plain
 pub plain_is_word_byte : (b : ℕ) (bs : List ℕ) → is_plain (class_at b bs) ≡ word_byte b
-plain_is_word_byte b bs = plain_first (word_byte b) (eqb b 32) (eqb b 9) (eqb b 10) (eqb b 35) (eqb b 92) (eqb b 40) (eqb b 41) (feeds bs)
+plain_is_word_byte b bs = grind arith
 
 -- the byte of a class that has one alone, and else b
 abbrev pub byte_of : Class → ℕ → ℕ
@@ -53,13 +41,10 @@ pub classed_byte : (b : ℕ) (joins : Bool) (k : Class) → class_of b joins ≡
 classed_byte b joins k e = sym (class_tells_byte b joins) ∙ ap (λ k. byte_of k b) e
 
 pub blank_not_continued : mode.Blank ≡ mode.Continued → ⊥
-blank_not_continued e = let z : ◌≡◌ {A = ℕ} 0 1 = cc in omega arith
+blank_not_continued e = grind arith
 
 pub word_not_continued : mode.Word ≡ mode.Continued → ⊥
-word_not_continued e = let z : ◌≡◌ {A = ℕ} 0 1 = cc in omega arith
-
-comment_not_continued : mode.Comment ≡ mode.Continued → ⊥
-comment_not_continued e = let z : ◌≡◌ {A = ℕ} 0 1 = cc in omega arith
+word_not_continued e = grind arith
 
 -- only a backslash that a line feed follows makes a continuation
 pub only_joins_continue : (m : Mode) (k : Class) → deed m k ≡ pass mode.Continued → k ≡ class.Join
@@ -93,10 +78,7 @@ blank_not_plain : (m : Mode) (k : Class) → (m ≡ mode.Continued → ⊥) → 
 blank_not_plain m k c e = grind arith
 
 pub feed_no_word_byte : (b : ℕ) → eqb b 10 ≡ true → word_byte b ≡ false
-feed_no_word_byte b e = let No : ℕ → Type 0 = λ n. word_byte n ≡ false in subst No (sym (eqb-true b 10 e)) refl
+feed_no_word_byte b e = grind arith
 
 pub blank_no_word_byte : (m : Mode) (b : ℕ) (bs : List ℕ) → (m ≡ mode.Continued → eqb b 10 ≡ true) → deed m (class_at b bs) ≡ pass mode.Blank → word_byte b ≡ false
-blank_no_word_byte mode.Blank b bs c e = sym (plain_is_word_byte b bs) ∙ blank_not_plain mode.Blank (class_at b bs) blank_not_continued e
-blank_no_word_byte mode.Word b bs c e = sym (plain_is_word_byte b bs) ∙ blank_not_plain mode.Word (class_at b bs) word_not_continued e
-blank_no_word_byte mode.Comment b bs c e = sym (plain_is_word_byte b bs) ∙ blank_not_plain mode.Comment (class_at b bs) comment_not_continued e
-blank_no_word_byte mode.Continued b bs c e = feed_no_word_byte b (c refl)
+blank_no_word_byte m b bs c e = grind (arith, plain_is_word_byte b bs, feed_no_word_byte b, blank_not_plain m (class_at b bs))

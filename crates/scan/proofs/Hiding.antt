@@ -1,7 +1,7 @@
 -- In a comment is where the scanner is in the mode Comment, and joined is the line feed that it comes to in the mode Continued.
-use Rattle.std.proofs.Common.{◌≡◌, ℕ, ◌+◌, Bool, true, false, cond, eqb, List, ◌∷◌, get_or, drop, sym, refl, ap, ◌∙◌, subst, ⊎_elim, arith}
+use Rattle.std.proofs.Common.{◌≡◌, ℕ, ◌+◌, Bool, true, false, cond, eqb, List, ◌∷◌, drop, sym, refl, ◌∙◌, subst, ⊎_elim, arith}
 use Rattle.std.proofs.lemmas.List.Sums.{fold_more}
-use Rattle.std.proofs.lemmas.Bool.{true≢false, both_ways, cases_Bool, cond-false, eqb-true, eq-eqb}
+use Rattle.std.proofs.lemmas.Bool.{both_ways, cases_Bool, cond-false, eqb-true}
 use Rattle.scan.specs.declared.step.Class.{Class}
 use Rattle.scan.specs.declared.step.Class.TheVariants as class
 use Rattle.scan.specs.declared.step.Mode.{Mode}
@@ -10,7 +10,7 @@ use Rattle.scan.specs.Bytes.{class_of, class_at, feeds}
 use Rattle.scan.specs.Steps.{Deed, deed, is_feed}
 use Rattle.scan.specs.Steps.Deed.{pass, begin, give}
 use Rattle.scan.specs.Kept.{hidden_behind, commented, Unjoined}
-use Rattle.scan.proofs.ByteLaws.{classed_byte, continued_feeds, only_joins_continue, blank_not_continued, word_not_continued}
+use Rattle.scan.proofs.ByteLaws.{classed_byte, continued_feeds, only_joins_continue}
 use Rattle.scan.proofs.FromPlace.{byte_at, within_text}
 
 abbrev pub hides : Mode → Bool
@@ -41,37 +41,17 @@ hiding_stays m k f h = grind arith
 continues_openly : (m : Mode) (k : Class) → deed m k ≡ pass mode.Continued → hides m ≡ false
 continues_openly m k e = grind arith
 
-feed_class : (k : Class) → is_feed k ≡ true → k ≡ class.Feed
-feed_class k e = grind arith
-
-hash_class : (k : Class) → is_hash k ≡ true → k ≡ class.Hash
-hash_class k e = grind arith
-
 no_feed : (b : ℕ) (joins : Bool) → eqb b 10 ≡ false → is_feed (class_of b joins) ≡ false
-no_feed b joins e =
-    ⊎_elim
-    (λ f. absurd (both_ways (eqb b 10) e (eq-eqb b 10 (classed_byte b joins class.Feed (feed_class (class_of b joins) f)))))
-    (λ f. f)
-    (cases_Bool (is_feed (class_of b joins)))
+no_feed b joins e = grind arith
 
 no_hash : (b : ℕ) (joins : Bool) → eqb b 35 ≡ false → is_hash (class_of b joins) ≡ false
-no_hash b joins e =
-    ⊎_elim
-    (λ f. absurd (both_ways (eqb b 35) e (eq-eqb b 35 (classed_byte b joins class.Hash (hash_class (class_of b joins) f)))))
-    (λ f. f)
-    (cases_Bool (is_hash (class_of b joins)))
+no_hash b joins e = grind arith
 
 feed_shows : (m : Mode) (joins : Bool) → hidden_behind (hides m) 10 ≡ hides (mode_behind (deed m (class_of 10 joins)))
-feed_shows mode.Blank joins = refl
-feed_shows mode.Word joins = refl
-feed_shows mode.Comment joins = refl
-feed_shows mode.Continued joins = refl
+feed_shows m joins = grind arith
 
 hash_hides : (m : Mode) (joins : Bool) → (m ≡ mode.Continued → ⊥) → hidden_behind (hides m) 35 ≡ hides (mode_behind (deed m (class_of 35 joins)))
-hash_hides mode.Blank joins c = refl
-hash_hides mode.Word joins c = refl
-hash_hides mode.Comment joins c = refl
-hash_hides mode.Continued joins c = absurd (c refl)
+hash_hides m joins c = grind arith
 
 hidden_by_mode : (m : Mode) (b : ℕ) (joins : Bool) → (m ≡ mode.Continued → eqb b 10 ≡ true) → hidden_behind (hides m) b ≡ hides (mode_behind (deed m (class_of b joins)))
 hidden_by_mode m b joins c =
@@ -93,38 +73,20 @@ pub record Tells (text : List ℕ) (m : Mode) (p : ℕ) (bs : List ℕ) : Type 0
   pub joined : m ≡ mode.Continued → Unjoined text p → ⊥
 
 back_continues : (m : Mode) (b : ℕ) (bs : List ℕ) → b ≡ 92 → feeds bs ≡ true → hides m ≡ false → (m ≡ mode.Continued → ⊥) → deed m (class_at b bs) ≡ pass mode.Continued
-back_continues mode.Blank b bs e f h c = ap (λ n. deed mode.Blank (class_of n (feeds bs))) e ∙ ap (λ j. deed mode.Blank (class_of 92 j)) f
-back_continues mode.Word b bs e f h c = ap (λ n. deed mode.Word (class_of n (feeds bs))) e ∙ ap (λ j. deed mode.Word (class_of 92 j)) f
-back_continues mode.Comment b bs e f h c = absurd (true≢false h)
-back_continues mode.Continued b bs e f h c = absurd (c refl)
+back_continues m b bs e f h c = grind arith
 
 module _ (text : List ℕ) (m : Mode) (p b : ℕ) (bs : List ℕ) (left : drop p text ≡ b ∷ bs) (now' : Tells text m p (b ∷ bs)) where
   hidden_next : commented text (p + 1) ≡ hides (mode_behind (deed m (class_at b bs)))
-  hidden_next =
-      fold_more hidden_behind false text p 0 (within_text text p b bs left)
-      ∙ ap (λ n. hidden_behind (commented text p) n) (byte_at text p b bs left)
-      ∙ ap (λ c. hidden_behind c b) now'.hidden
-      ∙ hidden_by_mode m b (feeds bs) now'.feed
+  hidden_next = grind (arith, fold_more hidden_behind false text p 0 (within_text text p b bs left), byte_at text p b bs left, now'.hidden, hidden_by_mode m b (feeds bs) now'.feed)
 
   unjoined_next : (mode_behind (deed m (class_at b bs)) ≡ mode.Continued → ⊥) → feeds bs ≡ true → Unjoined text (p + 1)
-  unjoined_next out f q e back =
-      let same : q ≡ p = omega arith in
-      let is : b ≡ 92 = sym (byte_at text p b bs left) ∙ ap (λ i. get_or text i 0) (sym same) ∙ back in
-      ⊎_elim
-      (λ h. ap (commented text) same ∙ now'.hidden ∙ h)
-      (λ h. absurd (out (ap mode_behind (back_continues m b bs is f h (λ c. both_ways (eqb b 10) (ap (λ n. eqb n 10) is) (now'.feed c))))))
-      (cases_Bool (hides m))
+  unjoined_next out f q e back = grind (arith, byte_at text p b bs left, now'.hidden, now'.feed, back_continues m b bs)
 
   continued_by : (d : Deed) → deed m (class_at b bs) ≡ d → mode_behind d ≡ mode.Continued → deed m (class_at b bs) ≡ pass mode.Continued
-  continued_by (pass n) e is = e ∙ ap pass is
-  continued_by begin e is = absurd (word_not_continued is)
-  continued_by (give g) e is = absurd (blank_not_continued is)
+  continued_by d e is = grind arith
 
   joined_next : mode_behind (deed m (class_at b bs)) ≡ mode.Continued → Unjoined text (p + 1) → ⊥
-  joined_next is free =
-      let on = continued_by (deed m (class_at b bs)) refl is in
-      let back = byte_at text p b bs left ∙ classed_byte b (feeds bs) class.Join (only_joins_continue m (class_at b bs) on) in
-      both_ways (commented text p) (now'.hidden ∙ continues_openly m (class_at b bs) on) (free p refl back)
+  joined_next is free = grind (arith, continued_by (deed m (class_at b bs)) refl is, byte_at text p b bs left, classed_byte b (feeds bs) class.Join, only_joins_continue m (class_at b bs), now'.hidden, continues_openly m (class_at b bs), free p refl)
 
   pub tells_next : (d : Deed) → deed m (class_at b bs) ≡ d → Tells text (mode_behind d) (p + 1) bs
   tells_next d e =

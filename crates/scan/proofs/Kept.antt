@@ -3,7 +3,7 @@ use Rattle.std.proofs.Common.{◌≡◌, ℕ, ◌+◌, ◌<◌, ◌≤◌, Bool,
 use Rattle.std.specs.List.{ContainsAt as Has, AllByRecursion}
 use Rattle.std.proofs.ByRecursion.{has_append_left, has_append_right, has_push}
 use Rattle.std.proofs.lemmas.List.{get_or-drop, length-drop}
-use Rattle.std.proofs.lemmas.Bool.{true≢false, both_ways, cases_Bool, cases_eq, cases_lt, cond-true, cond-false, eqb-true, eq-eqb, ne_eqb}
+use Rattle.std.proofs.lemmas.Bool.{cases_eq, cases_lt, eq-eqb, ne_eqb}
 use Rattle.scan.specs.declared.step.Class.{Class}
 use Rattle.scan.specs.declared.step.Class.TheVariants as class
 use Rattle.scan.specs.declared.step.Mode.{Mode}
@@ -45,12 +45,7 @@ gives_uncontinued : (m : Mode) (k : Class) (g : Mark) → deed m k ≡ give g �
 gives_uncontinued m k g e c = grind arith
 
 stray_class : (b : ℕ) (joins : Bool) → word_byte b ≡ false → (b ≡ 32 → ⊥) → (b ≡ 9 → ⊥) → (b ≡ 10 → ⊥) → (b ≡ 35 → ⊥) → (b ≡ 40 → ⊥) → (b ≡ 41 → ⊥) → (b ≡ 92 → joins ≡ true → ⊥) → class_of b joins ≡ class.Stray
-stray_class b joins w s t f h o c j =
-    cond-false (word_byte b) _ _ w ∙ cond-false (eqb b 32) _ _ (ne_eqb b 32 s) ∙ cond-false (eqb b 9) _ _ (ne_eqb b 9 t) ∙ cond-false (eqb b 10) _ _ (ne_eqb b 10 f) ∙ cond-false (eqb b 35) _ _ (ne_eqb b 35 h)
-    ∙ ⊎_elim
-    (λ e. cond-true (eqb b 92) _ _ e ∙ ⊎_elim (λ i. absurd (j (eqb-true b 92 e) i)) (λ i. cond-false joins _ _ i) (cases_Bool joins))
-    (λ e. cond-false (eqb b 92) _ _ e ∙ cond-false (eqb b 40) _ _ (ne_eqb b 40 o) ∙ cond-false (eqb b 41) _ _ (ne_eqb b 41 c))
-    (cases_Bool (eqb b 92))
+stray_class b joins w s t f h o c j = grind (arith, ne_eqb b 32 s, ne_eqb b 9 t, ne_eqb b 10 f, ne_eqb b 35 h, ne_eqb b 40 o, ne_eqb b 41 c)
 
 has_first : (t : Piece) (ts : List Piece) → Has (t ∷ ts) t
 has_first t ts = has_append_left (t ∷ []) ts t (has_push [] t)
@@ -71,16 +66,13 @@ ahead mode.Continued bs = 0
 -- the byte at the place that the scanner is at
 module _ (text : List ℕ) (m : Mode) (p b : ℕ) (bs : List ℕ) (left : drop p text ≡ b ∷ bs) (told : Tells text m p (b ∷ bs)) where
   uncontinued : (c : ℕ) → get_or text p 0 ≡ c → eqb c 10 ≡ false → m ≡ mode.Continued → ⊥
-  uncontinued c is e on = both_ways (eqb b 10) (ap (λ n. eqb n 10) (sym (byte_at text p b bs left) ∙ is) ∙ e) (told.feed on)
+  uncontinued c is e on = grind (arith, byte_at text p b bs left, told.feed on)
 
   classed_as : (c : ℕ) (k : Class) → get_or text p 0 ≡ c → class_of c (feeds bs) ≡ k → class_at b bs ≡ k
-  classed_as c k is e = ap (λ n. class_of n (feeds bs)) (sym (byte_at text p b bs left) ∙ is) ∙ e
+  classed_as c k is e = grind (arith, byte_at text p b bs left)
 
   feed_behind : feeds bs ≡ true → get_or text (p + 1) 0 ≡ 10
-  feed_behind e = sym (get_or-drop p text 1 0) ∙ ap (λ l. get_or l 1 0) left ∙ of bs e where
-    of : (cs : List ℕ) → feeds cs ≡ true → get_or (b ∷ cs) 1 0 ≡ 10
-    of [] f = absurd (true≢false (sym f))
-    of (c ∷ cs) f = eqb-true c 10 f
+  feed_behind e = grind (arith, get_or-drop p text 1 0, left, told.feed)
 
   classed_stray : StrayAt text p → class_at b bs ≡ class.Stray
   classed_stray s =
@@ -88,24 +80,24 @@ module _ (text : List ℕ) (m : Mode) (p b : ℕ) (bs : List ℕ) (left : drop p
       stray_class b (feeds bs) (ap word_byte (sym is) ∙ s.unworded) (λ e. s.unspace (is ∙ e)) (λ e. s.untab (is ∙ e)) (λ e. s.unfeed (is ∙ e)) (λ e. s.unhash (is ∙ e)) (λ e. s.unopen (is ∙ e)) (λ e. s.unclose (is ∙ e)) (λ e f. s.unjoined (is ∙ e) (feed_behind f))
 
   mark_read : (g : Mark) → MarkAt text p g → Seen text (at p (sign g)) → deed m (class_at b bs) ≡ give g
-  mark_read mark.Open is s = ap (deed m) (classed_as 40 class.Open is refl) ∙ reads_mark m mark.Open (sym told.hidden ∙ s) (uncontinued 40 is refl) (λ l. let z : ◌≡◌ {A = ℕ} 0 1 = cc in omega arith)
-  mark_read mark.Close is s = ap (deed m) (classed_as 41 class.Close is refl) ∙ reads_mark m mark.Close (sym told.hidden ∙ s) (uncontinued 41 is refl) (λ l. let z : ◌≡◌ {A = ℕ} 0 1 = cc in omega arith)
-  mark_read mark.End is s = ap (deed m) (classed_as 10 class.Feed is refl) ∙ reads_end m (λ c. told.joined c s)
-  mark_read mark.Last is s = absurd (omega (arith, within_text text p b bs left))
-  mark_read mark.Stray is s = ap (deed m) (classed_stray is) ∙ reads_mark m mark.Stray (sym told.hidden ∙ s) (λ c. is.unfeed (byte_at text p b bs left ∙ eqb-true b 10 (told.feed c))) (λ l. let z : ◌≡◌ {A = ℕ} 0 1 = cc in omega arith)
+  mark_read mark.Open is s = grind (arith, classed_as 40 class.Open is refl, told.hidden, uncontinued 40 is refl, reads_mark m mark.Open)
+  mark_read mark.Close is s = grind (arith, classed_as 41 class.Close is refl, told.hidden, uncontinued 41 is refl, reads_mark m mark.Close)
+  mark_read mark.End is s = grind (arith, classed_as 10 class.Feed is refl, told.joined, s, reads_end m)
+  mark_read mark.Last is s = grind (arith, within_text text p b bs left)
+  mark_read mark.Stray is s = grind (arith, classed_stray is, is.unfeed, byte_at text p b bs left, told.hidden, told.feed, reads_mark m mark.Stray)
 
   word_byte_begins : (n : Mode) → m ≡ n → p + ahead n (b ∷ bs) ≤ p → commented text p ≡ false → word_byte b ≡ true → deed n (class_at b bs) ≡ begin
-  word_byte_begins mode.Blank is a c w = reads_word (class_at b bs) (plain_is_word_byte b bs ∙ w)
-  word_byte_begins mode.Word is a c w = absurd (omega (arith, ap length (run_more b bs w)))
-  word_byte_begins mode.Comment is a c w = absurd (both_ways (commented text p) c (told.hidden ∙ ap hides is))
-  word_byte_begins mode.Continued is a c w = absurd (both_ways (word_byte b) (feed_no_word_byte b (told.feed is)) w)
+  word_byte_begins mode.Blank is a c w = grind (arith, plain_is_word_byte b bs, reads_word)
+  word_byte_begins mode.Word is a c w = grind (arith, run_more b bs w)
+  word_byte_begins mode.Comment is a c w = grind (arith, told.hidden)
+  word_byte_begins mode.Continued is a c w = grind (arith, feed_no_word_byte b, told.feed is)
 
   mark_seen : (g : Mark) → deed m (class_at b bs) ≡ give g → Seen text (at p (sign g))
-  mark_seen mark.Open e = told.hidden ∙ gives_openly m _ mark.Open (λ l. let z : ◌≡◌ {A = ℕ} 0 1 = cc in omega arith) e
-  mark_seen mark.Close e = told.hidden ∙ gives_openly m _ mark.Close (λ l. let z : ◌≡◌ {A = ℕ} 0 1 = cc in omega arith) e
+  mark_seen mark.Open e = grind (arith, told.hidden, gives_openly m (class_at b bs) mark.Open, e)
+  mark_seen mark.Close e = grind (arith, told.hidden, gives_openly m (class_at b bs) mark.Close, e)
   mark_seen mark.End e = told.unjoined (gives_uncontinued m _ mark.End e) (eq-eqb b 10 (classed_byte b (feeds bs) class.Feed (given_by m (class_at b bs) mark.End e)))
   mark_seen mark.Last e = tt
-  mark_seen mark.Stray e = told.hidden ∙ gives_openly m _ mark.Stray (λ l. let z : ◌≡◌ {A = ℕ} 0 1 = cc in omega arith) e
+  mark_seen mark.Stray e = grind (arith, told.hidden, gives_openly m (class_at b bs) mark.Stray, e)
 
 marks_kept : (text : List ℕ) (m : Mode) (p : ℕ) (bs : List ℕ) → drop p text ≡ bs → Tells text m p bs → (q : ℕ) (g : Mark) → p ≤ q → q < length text → MarkAt text q g → Seen text (at q (sign g)) → Has (lex m p bs) (at q (sign g))
 marks_kept text m p [] left told q g low in' is s = absurd (omega (arith, sym (length-drop p text) ∙ ap length left))
@@ -130,13 +122,7 @@ marks_kept text m p (b ∷ bs) left told q g low in' is s =
     (cases_eq p q)
 
 ahead_next : (m n : Mode) (p q b : ℕ) (bs : List ℕ) → deed m (class_at b bs) ≡ pass n → p + ahead m (b ∷ bs) ≤ q → p + 1 ≤ q → p + 1 + ahead n bs ≤ q
-ahead_next m mode.Blank p q b bs e a h = omega arith
-ahead_next m mode.Word p q b bs e a h =
-    let w = in_word m (class_at b bs) e in
-    let Ahead : Mode → Type 0 = λ m. p + ahead m (b ∷ bs) ≤ q in
-    omega (arith, subst Ahead w.0 a, ap length (run_more b bs (sym (plain_is_word_byte b bs) ∙ w.1)))
-ahead_next m mode.Comment p q b bs e a h = omega arith
-ahead_next m mode.Continued p q b bs e a h = omega arith
+ahead_next m n p q b bs e a h = grind (arith, in_word m (class_at b bs), run_more b bs, plain_is_word_byte b bs)
 
 words_kept : (text : List ℕ) (m : Mode) (p : ℕ) (bs : List ℕ) → drop p text ≡ bs → Tells text m p bs → (q : ℕ) → p + ahead m bs ≤ q → q < length text → commented text q ≡ false → word_byte (get_or text q 0) ≡ true → Covered (lex m p bs) q
 words_kept text m p [] left told q a in' c w = absurd (omega (arith, sym (length-drop p text) ∙ ap length left))

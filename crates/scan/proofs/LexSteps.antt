@@ -1,5 +1,5 @@
 -- The tokens of a byte and those behind it, by what the byte does.
-use Rattle.std.proofs.Common.{◌≡◌, ℕ, ◌+◌, Bool, true, false, List, [], ◌∷◌, sym, refl, ap, ◌∙◌}
+use Rattle.std.proofs.Common.{◌≡◌, ℕ, ◌+◌, Bool, true, false, List, [], ◌∷◌, sym, refl, ap, ◌∙◌, arith}
 use Rattle.scan.specs.declared.step.Mode.{Mode}
 use Rattle.scan.specs.declared.step.Mode.TheVariants as mode
 use Rattle.scan.specs.declared.token.Mark.TheVariants as mark
@@ -14,10 +14,10 @@ use Rattle.scan.specs.Lineation.{front}
 use Rattle.std.proofs.lemmas.Bool.{true≢false}
 
 pub run_more : (b : ℕ) (bs : List ℕ) → word_byte b ≡ true → run (b ∷ bs) ≡ b ∷ run bs
-run_more b bs e = rw (e, run)
+run_more b bs e = grind arith
 
 pub run_ends : (b : ℕ) (bs : List ℕ) → word_byte b ≡ false → run (b ∷ bs) ≡ []
-run_ends b bs e = rw (e, run)
+run_ends b bs e = grind arith
 
 pub lex-nil : (m : Mode) (p : ℕ) → lex m p [] ≡ at p (sign mark.Last) ∷ []
 unfolding lex

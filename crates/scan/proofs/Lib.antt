@@ -8,4 +8,3 @@ pub mod Order
 pub mod Marks
 pub mod Hiding
 pub mod Kept
-pub mod Reading

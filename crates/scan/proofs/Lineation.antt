@@ -1,11 +1,11 @@
 -- A text is read line by line.
-use Rattle.std.proofs.Common.{◌≡◌, ℕ, ◌+◌, true, false, eqb, List, [], ◌∷◌, ◌++◌, length, sym, refl, ap, ◌∙◌, subst, ⊎_elim, zero-add, arith}
+use Rattle.std.proofs.Common.{◌≡◌, ℕ, ◌+◌, true, false, List, [], ◌∷◌, ◌++◌, length, sym, refl, ap, ◌∙◌, zero-add, arith}
 use Rattle.std.specs.List.{AllByRecursion}
-use Rattle.std.proofs.lemmas.Bool.{true≢false, cases_Bool, eqb-true}
+use Rattle.std.proofs.lemmas.Bool.{true≢false}
 use Rattle.scan.specs.declared.step.Mode.{Mode}
 use Rattle.scan.specs.declared.step.Mode.TheVariants as mode
 use Rattle.scan.specs.declared.token.Mark.TheVariants as mark
-use Rattle.scan.specs.Bytes.{class_of, class_at, feeds, word_byte}
+use Rattle.scan.specs.Bytes.{class_of, class_at, feeds}
 use Rattle.scan.specs.Steps.{Deed, deed}
 use Rattle.scan.specs.Steps.Deed.{pass, begin, give}
 use Rattle.scan.specs.Tokens.{Piece, is_stray}
@@ -22,18 +22,11 @@ feeds_before_feed (c ∷ u) v w = refl
 
 run_before_feed : (u v w : List ℕ) → run (u ++ 10 ∷ v) ≡ run (u ++ 10 ∷ w)
 run_before_feed [] v w = refl
-run_before_feed (c ∷ u) v w =
-    ⊎_elim
-    (λ e. run_more c (u ++ 10 ∷ v) e ∙ ap (λ r. c ∷ r) (run_before_feed u v w) ∙ sym (run_more c (u ++ 10 ∷ w) e))
-    (λ e. run_ends c (u ++ 10 ∷ v) e ∙ sym (run_ends c (u ++ 10 ∷ w) e))
-    (cases_Bool (word_byte c))
+run_before_feed (c ∷ u) v w = grind (arith, run_more, run_ends, run_before_feed u v w)
 
 -- what a line feed leaves of the mode
 feed_read : (m : Mode) (p : ℕ) (v : List ℕ) → lex m p (10 ∷ v) ≡ front (lex m p (10 ∷ [])) ++ lex mode.Blank (p + 1) v
-feed_read mode.Blank p v = rw (lex-cons mode.Blank p 10 v, lex-cons mode.Blank p 10 [], lex-nil mode.Blank (p + 1)) refl
-feed_read mode.Word p v = rw (lex-cons mode.Word p 10 v, lex-cons mode.Word p 10 [], lex-nil mode.Blank (p + 1)) refl
-feed_read mode.Comment p v = rw (lex-cons mode.Comment p 10 v, lex-cons mode.Comment p 10 [], lex-nil mode.Blank (p + 1)) refl
-feed_read mode.Continued p v = lex-cons mode.Continued p 10 v ∙ ap (λ l. front l ++ lex mode.Blank (p + 1) v) (sym (lex-cons mode.Continued p 10 [] ∙ lex-nil mode.Blank (p + 1)))
+feed_read m p v = grind (arith, lex-cons m p 10 v, lex-cons m p 10 [], lex-nil mode.Blank (p + 1))
 
 pub lines_are_read_one_by_one : LinesAreReadOneByOne
 lines_are_read_one_by_one m p [] v =
@@ -52,17 +45,9 @@ lines_are_read_one_by_one m p (b ∷ u) v =
     ∙ ap (λ l. front l ++ lex mode.Blank (p + 1 + length u + 1) v) (sym (lex-cons m p b (u ++ 10 ∷ [])))
     ∙ ap (λ q. front (lex m p (b ∷ (u ++ 10 ∷ []))) ++ lex mode.Blank q v) on
 
--- the same from the text's beginning
-pub tokens_behind_a_feed : (u v : List ℕ) → tokens_of (u ++ 10 ∷ v) ≡ front (tokens_of (u ++ 10 ∷ [])) ++ lex mode.Blank (length u + 1) v
-tokens_behind_a_feed u v = lines_are_read_one_by_one mode.Blank 0 u v ∙ ap (λ n. front (tokens_of (u ++ 10 ∷ [])) ++ lex mode.Blank (n + 1) v) (zero-add (length u))
-
 run_at_feed : (u v : List ℕ) → run (u ++ 10 ∷ v) ≡ run u
 run_at_feed [] v = refl
-run_at_feed (c ∷ u) v =
-    ⊎_elim
-    (λ e. run_more c (u ++ 10 ∷ v) e ∙ ap (λ r. c ∷ r) (run_at_feed u v) ∙ sym (run_more c u e))
-    (λ e. run_ends c (u ++ 10 ∷ v) e ∙ sym (run_ends c u e))
-    (cases_Bool (word_byte c))
+run_at_feed (c ∷ u) v = grind (arith, run_at_feed u v)
 
 abbrev AllClean : List Piece → Type 0
 AllClean ts = AllByRecursion (λ t. is_stray t ≡ false) ts
@@ -77,20 +62,11 @@ clean_back mode.Continued p h = refl
 -- so what comes behind a clean text does not change what its last byte does
 same_deed : (m : Mode) (p b : ℕ) (u v : List ℕ) → AllClean (lex m p (b ∷ u)) → deed m (class_at b (u ++ 10 ∷ v)) ≡ deed m (class_at b u)
 same_deed m p b (c ∷ u) v h = refl
-same_deed m p b [] v h =
-    ⊎_elim
-    (λ e.
-    let Same : ℕ → Type 0 = λ n. AllClean (lex m p (n ∷ [])) → deed m (class_of n true) ≡ deed m (class_of n false) in
-    subst Same (sym (eqb-true b 92 e)) (clean_back m p) h)
-    (λ e. rw e refl)
-    (cases_Bool (eqb b 92))
+same_deed m p b [] v h = grind (arith, clean_back m p)
 
 -- a line feed ends the line, outside a continuation
 feed_ends : (m : Mode) (p : ℕ) (v : List ℕ) → (m ≡ mode.Continued → ⊥) → lex m p (10 ∷ v) ≡ at p (sign mark.End) ∷ lex mode.Blank (p + 1) v
-feed_ends mode.Blank p v out = lex-cons mode.Blank p 10 v
-feed_ends mode.Word p v out = lex-cons mode.Word p 10 v
-feed_ends mode.Comment p v out = lex-cons mode.Comment p 10 v
-feed_ends mode.Continued p v out = absurd (out refl)
+feed_ends m p v out = grind (arith, lex-cons m p 10 v)
 
 pub joined_by_a_feed : (m : Mode) (p : ℕ) (u v : List ℕ) → (m ≡ mode.Continued → feeds u ≡ true) → AllClean (lex m p u) → lex m p (u ++ 10 ∷ v) ≡ front (lex m p u) ++ at (p + length u) (sign mark.End) ∷ lex mode.Blank (p + length u + 1) v
 joined_by_a_feed m p [] v r h =

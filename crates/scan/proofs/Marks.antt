@@ -2,7 +2,6 @@
 use Rattle.std.proofs.Common.{◌≡◌, ℕ, ◌+◌, ◌≤◌, Bool, true, List, [], ◌∷◌, length, get_or, drop, sym, refl, ap, ◌∙◌, arith}
 use Rattle.std.specs.List.{AllByRecursion}
 use Rattle.std.proofs.lemmas.List.{get_or-drop, length-drop}
-use Rattle.std.proofs.lemmas.Bool.{eq-eqb}
 use Rattle.scan.specs.declared.step.Class.{Class}
 use Rattle.scan.specs.declared.step.Class.TheVariants as class
 use Rattle.scan.specs.declared.step.Mode.{Mode}
@@ -38,10 +37,7 @@ classed b c joins e h = ap (λ n. class_of n joins) (sym e) ∙ h
 
 module _ (text : List ℕ) (p b : ℕ) (bs : List ℕ) (left : drop p text ≡ b ∷ bs) where
   feed_behind : get_or text (p + 1) 0 ≡ 10 → feeds bs ≡ true
-  feed_behind e = of bs (sym (get_or-drop p text 1 0) ∙ ap (λ l. get_or l 1 0) left) where
-    of : (cs : List ℕ) → get_or text (p + 1) 0 ≡ get_or (b ∷ cs) 1 0 → feeds cs ≡ true
-    of [] f = let z : ◌≡◌ {A = ℕ} 0 10 = sym f ∙ e in absurd (omega arith)
-    of (c ∷ cs) f = eq-eqb c 10 (sym f ∙ e)
+  feed_behind e = grind (arith, get_or-drop p text 1 0, left)
 
   not_stray : (c : ℕ) (joins : Bool) → (class_of c joins ≡ class.Stray → ⊥) → feeds bs ≡ joins → class_at b bs ≡ class.Stray → get_or text p 0 ≡ c → ⊥
   not_stray c joins never f k e = never (ap (λ j. class_of c j) (sym f) ∙ classed b c (feeds bs) (sym (byte_at text p b bs left) ∙ e) k)
@@ -52,13 +48,13 @@ module _ (text : List ℕ) (p b : ℕ) (bs : List ℕ) (left : drop p text ≡ b
       record {
         within = within_text text p b bs left;
         unworded = ap word_byte (byte_at text p b bs left) ∙ sign_no_word_byte m b bs mark.Stray e;
-        unopen = not_stray 40 (feeds bs) (λ h. let z : ◌≡◌ {A = ℕ} 0 1 = cc in omega arith) refl k;
-        unclose = not_stray 41 (feeds bs) (λ h. let z : ◌≡◌ {A = ℕ} 0 1 = cc in omega arith) refl k;
-        unhash = not_stray 35 (feeds bs) (λ h. let z : ◌≡◌ {A = ℕ} 0 1 = cc in omega arith) refl k;
-        unfeed = not_stray 10 (feeds bs) (λ h. let z : ◌≡◌ {A = ℕ} 0 1 = cc in omega arith) refl k;
-        unspace = not_stray 32 (feeds bs) (λ h. let z : ◌≡◌ {A = ℕ} 0 1 = cc in omega arith) refl k;
-        untab = not_stray 9 (feeds bs) (λ h. let z : ◌≡◌ {A = ℕ} 0 1 = cc in omega arith) refl k;
-        unjoined = λ back f. not_stray 92 true (λ h. let z : ◌≡◌ {A = ℕ} 0 1 = cc in omega arith) (feed_behind f) k back;
+        unopen = λ e. grind (arith, byte_at text p b bs left, k, e);
+        unclose = λ e. grind (arith, byte_at text p b bs left, k, e);
+        unhash = λ e. grind (arith, byte_at text p b bs left, k, e);
+        unfeed = λ e. grind (arith, byte_at text p b bs left, k, e);
+        unspace = λ e. grind (arith, byte_at text p b bs left, k, e);
+        untab = λ e. grind (arith, byte_at text p b bs left, k, e);
+        unjoined = λ back f. not_stray 92 true (λ h. grind arith) (feed_behind f) k back;
       }
 
   mark_at : (m : Mode) (g : Mark) → deed m (class_at b bs) ≡ give g → MarkAt text p g

@@ -1,8 +1,7 @@
 -- Words are longest runs.
-use Rattle.std.proofs.Common.{◌≡◌, ℕ, ◌+◌, true, false, List, [], ◌∷◌, length, get_or, take, drop, sym, refl, ap, ◌∙◌, subst, ⊎_elim, arith}
+use Rattle.std.proofs.Common.{◌≡◌, ℕ, ◌+◌, true, false, List, [], ◌∷◌, length, get_or, take, drop, sym, refl, ap, ◌∙◌, subst, arith}
 use Rattle.std.specs.List.{AllByRecursion}
 use Rattle.std.proofs.lemmas.List.{get_or-drop}
-use Rattle.std.proofs.lemmas.Bool.{cases_Bool}
 use Rattle.scan.specs.declared.step.Mode.{Mode}
 use Rattle.scan.specs.declared.step.Mode.TheVariants as mode
 use Rattle.scan.specs.Bytes.{class_at, feeds, word_byte}
@@ -12,41 +11,26 @@ use Rattle.scan.specs.Lex.{run, lex}
 use Rattle.scan.specs.Runs.{LongestRun, RunIfWord, WordsAreLongestRuns}
 use Rattle.scan.proofs.ByteLaws.{continued_feeds, word_begins, sign_no_word_byte, blank_no_word_byte}
 use Rattle.scan.proofs.FromPlace.{byte_at, rest_at}
-use Rattle.scan.proofs.LexSteps.{run_more, run_ends, lex-nil, lex-cons, lex_by}
+use Rattle.scan.proofs.LexSteps.{lex-nil, lex-cons, lex_by}
 
 run_here : (bs : List ℕ) → take (length (run bs)) bs ≡ run bs
 run_here [] = refl
-run_here (b ∷ bs) =
-    ⊎_elim
-    (λ e. ap (λ r. take (length r) (b ∷ bs)) (run_more b bs e) ∙ ap (λ r. b ∷ r) (run_here bs) ∙ sym (run_more b bs e))
-    (λ e. ap (λ r. take (length r) (b ∷ bs)) (run_ends b bs e) ∙ sym (run_ends b bs e))
-    (cases_Bool (word_byte b))
+run_here (b ∷ bs) = grind (arith, run_here bs)
 
 run_bytes : (bs : List ℕ) → AllByRecursion (λ b. word_byte b ≡ true) (run bs)
 run_bytes [] = tt
-run_bytes (b ∷ bs) =
-    let Bytes : List ℕ → Type 0 = λ r. AllByRecursion (λ b. word_byte b ≡ true) r in
-    ⊎_elim
-    (λ e. subst Bytes (sym (run_more b bs e)) (e, run_bytes bs))
-    (λ e. subst Bytes (sym (run_ends b bs e)) tt)
-    (cases_Bool (word_byte b))
+run_bytes (b ∷ bs) = grind (arith, run_bytes bs)
 
 run_stops : (bs : List ℕ) → word_byte (get_or bs (length (run bs)) 0) ≡ false
 run_stops [] = refl
-run_stops (b ∷ bs) =
-    ⊎_elim
-    (λ e. ap (λ r. word_byte (get_or (b ∷ bs) (length r) 0)) (run_more b bs e) ∙ run_stops bs)
-    (λ e. ap (λ r. word_byte (get_or (b ∷ bs) (length r) 0)) (run_ends b bs e) ∙ e)
-    (cases_Bool (word_byte b))
+run_stops (b ∷ bs) = grind (arith, run_stops bs)
 
 -- no byte of a word stands directly before place p
 abbrev NoneBefore : List ℕ → ℕ → Type 0
 NoneBefore text p = (q : ℕ) → q + 1 ≡ p → word_byte (get_or text q 0) ≡ false
 
 none_before : (text : List ℕ) (p b : ℕ) → get_or text p 0 ≡ b → word_byte b ≡ false → NoneBefore text (p + 1)
-none_before text p b is none q e =
-    let same : q ≡ p = omega arith in
-    ap (λ i. word_byte (get_or text i 0)) same ∙ ap word_byte is ∙ none
+none_before text p b is none q e = grind arith
 
 -- what is known in a mode of the bytes around the place
 abbrev Around : Mode → List ℕ → ℕ → List ℕ → Type 0
@@ -56,7 +40,7 @@ Around mode.Comment text p bs = Unit {0}
 Around mode.Continued text p bs = feeds bs ≡ true
 
 continued : (m : Mode) (text : List ℕ) (p : ℕ) (bs : List ℕ) → Around m text p bs → m ≡ mode.Continued → feeds bs ≡ true
-continued m text p bs a e = let Known : Mode → Type 0 = λ m. Around m text p bs in subst Known e a
+continued m text p bs a e = grind arith
 
 around_next : (text : List ℕ) (m n : Mode) (p b : ℕ) (bs : List ℕ) → get_or text p 0 ≡ b → Around m text p (b ∷ bs) → deed m (class_at b bs) ≡ pass n → Around n text (p + 1) bs
 around_next text m mode.Blank p b bs is a e = none_before text p b is (blank_no_word_byte m b bs (continued m text p (b ∷ bs) a) e)

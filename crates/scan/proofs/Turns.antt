@@ -1,6 +1,6 @@
 -- What one turn of the scanner's loop keeps.
 use Rattle.std.proofs.Common.{◌≡◌, ℕ, ◌+◌, ◌-◌, ◌<◌, ◌≤◌, Bool, true, false, List, [], ◌∷◌, ◌++◌, length, get_or, take, drop, sym, refl, ap, ◌∙◌, append_assoc, append-nil, arith, length-drop, get_or-drop}
-use Rattle.std.proofs.lemmas.List.{at_drop_more, at_drop_all, take_more}
+use Rattle.std.proofs.lemmas.List.{length-take, at_drop_more, at_drop_all, take_more}
 use Rattle.std.proofs.lemmas.Bool.{both_ways, true≢false}
 use Rattle.scan.specs.declared.step.Class.{Class}
 use Rattle.scan.specs.declared.step.Step.TheVariants.{Pass, Begin, Cut, Give}
@@ -12,7 +12,7 @@ use Rattle.scan.specs.Bytes.{class_at, word_byte}
 use Rattle.scan.proofs.ByteLaws.{plain_is_word_byte}
 use Rattle.scan.specs.Steps.{Deed, deed, is_plain, step_of}
 use Rattle.scan.specs.Steps.Deed.{pass, begin, give}
-use Rattle.scan.specs.Tokens.{Piece, Gives, is_last}
+use Rattle.scan.specs.Tokens.{Piece, Gives, is_last, behind}
 use Rattle.scan.specs.Tokens.Piece.{at}
 use Rattle.scan.specs.Tokens.Said.{word, sign}
 use Rattle.scan.specs.Lex.{lex, run, tokens_from}
@@ -61,47 +61,36 @@ not_last e h = record { more = λ _. h; last = λ e'. absurd (both_ways _ e e') 
 
 -- outside a word the state is what is to come
 to_come : (m : Mode) (s : List ℕ) (start p : ℕ) (all : List Piece) → outside m ≡ true → Going m s start p all → lex m p (drop p s) ≡ all
-to_come mode.Blank s start p all o h = h
-to_come mode.Word s start p all o h = absurd (true≢false (sym o))
-to_come mode.Comment s start p all o h = h
-to_come mode.Continued s start p all o h = h
+to_come m s start p all o h = grind arith
 
 going : (m : Mode) (s : List ℕ) (start p : ℕ) (all : List Piece) → (m ≡ mode.Word → ⊥) → lex m p (drop p s) ≡ all → Going m s start p all
-going mode.Blank s start p all o h = h
-going mode.Word s start p all o h = absurd (o refl)
-going mode.Comment s start p all o h = h
-going mode.Continued s start p all o h = h
+going m s start p all o h = grind arith
 
 -- a byte at place p of s, and its class k
 module _ (s : List ℕ) (all : List Piece) (start p : ℕ) (in' : p < length s) (k : Class) (is : k ≡ class_at (get_or s p 0) (drop (p + 1) s)) where
   lexed : (m : Mode) (d : Deed) → deed m k ≡ d → lex m p (drop p s) ≡ lex_by d p (get_or s p 0) (drop (p + 1) s)
-  lexed m d e = at_drop_more (lex m p) s p 0 in' ∙ lex-cons m p _ _ ∙ ap (λ d. lex_by d p (get_or s p 0) (drop (p + 1) s)) (ap (deed m) (sym is) ∙ e)
+  lexed m d e = grind (arith, at_drop_more (lex m p) s p 0 in', lex-cons m p (get_or s p 0) (drop (p + 1) s), is)
 
   passes : (m n : Mode) → Pass n ≡ step_of m k → lex n (p + 1) (drop (p + 1) s) ≡ lex m p (drop p s)
-  passes m n e = sym (lexed m (pass n) (pass-deed m n k e))
+  passes m n e = grind (arith, lexed m (pass n) (pass-deed m n k e))
 
   byte_in_word : is_plain k ≡ true → word_byte (get_or s p 0) ≡ true
-  byte_in_word e = sym (plain_is_word_byte (get_or s p 0) (drop (p + 1) s)) ∙ ap is_plain (sym is) ∙ e
+  byte_in_word e = grind (arith, plain_is_word_byte (get_or s p 0) (drop (p + 1) s))
 
   word_longer : is_plain k ≡ true → Going mode.Word s start p all → lex mode.Word (p + 1) (drop (p + 1) s) ≡ lex mode.Word p (drop p s) → Going mode.Word s start (p + 1) all
   word_longer plain h later =
-      let low = h.0 in
-      let one : p + 1 - start ≡ p - start + 1 = omega arith in
-      let back : start + (p - start) ≡ p = omega arith in
-      let long : p - start < length (drop start s) = rw length-drop (omega arith) in
-      let byte = get_or-drop start s (p - start) 0 ∙ ap (λ i. get_or s i 0) back in
-      let front = ap (λ n. take n (drop start s)) one ∙ take_more (drop start s) (p - start) 0 long ∙ ap (λ b. take (p - start) (drop start s) ++ b ∷ []) byte in
-      let rest = at_drop_more run s p 0 in' ∙ run_more (get_or s p 0) (drop (p + 1) s) (byte_in_word plain) in
-      let whole : take (p + 1 - start) (drop start s) ++ run (drop (p + 1) s) ≡ take (p - start) (drop start s) ++ run (drop p s) = rw (front, rest, append_assoc) refl in
-      (omega arith, omega arith, (λ i. at start (word (whole i)) ∷ later i) ∙ h.2)
+      let long : p - start < length (drop start s) = rw length-drop (omega (arith, h.0)) in
+      let byte = get_or-drop start s (p - start) 0 in
+      let whole : take (p + 1 - start) (drop start s) ++ run (drop (p + 1) s) ≡ take (p - start) (drop start s) ++ run (drop p s) = grind (arith, take_more (drop start s) (p - start) 0 long, byte, at_drop_more run s p 0 in', run_more (get_or s p 0) (drop (p + 1) s) (byte_in_word plain), append_assoc (take (p - start) (drop start s)) (get_or s p 0 ∷ []) (run (drop (p + 1) s)), h.0) in
+      (omega (arith, h.0), omega arith, (λ i. at start (word (whole i)) ∷ later i) ∙ h.2)
 
   pub turned : (m n : Mode) → Pass n ≡ step_of m k → Going m s start p all → Going n s start (p + 1) all
-  turned mode.Blank n e h = going n s start (p + 1) all (λ w. only_words_pass_to_words mode.Blank k refl (ap Pass (sym w) ∙ e)) (passes mode.Blank n e ∙ h)
+  turned mode.Blank n e h = grind (arith, only_words_pass_to_words mode.Blank k, passes mode.Blank n e, going n s start (p + 1) all)
   turned mode.Word n e h =
       let w = word_goes_on n k e in
       rw w.0 (word_longer w.1 h (passes mode.Word mode.Word (ap Pass (sym w.0) ∙ e)))
-  turned mode.Comment n e h = going n s start (p + 1) all (λ w. only_words_pass_to_words mode.Comment k refl (ap Pass (sym w) ∙ e)) (passes mode.Comment n e ∙ h)
-  turned mode.Continued n e h = going n s start (p + 1) all (λ w. only_words_pass_to_words mode.Continued k refl (ap Pass (sym w) ∙ e)) (passes mode.Continued n e ∙ h)
+  turned mode.Comment n e h = grind (arith, only_words_pass_to_words mode.Comment k, passes mode.Comment n e, going n s start (p + 1) all)
+  turned mode.Continued n e h = grind (arith, only_words_pass_to_words mode.Continued k, passes mode.Continued n e, going n s start (p + 1) all)
 
   pub begun : (m : Mode) → Begin ≡ step_of m k → Going m s start p all → Going mode.Word s p (p + 1) all
   begun m e h =
@@ -111,31 +100,40 @@ module _ (s : List ℕ) (all : List Piece) (start p : ℕ) (in' : p < length s) 
       let was : lex mode.Blank p (drop p s) ≡ all = rw b.0 at h in
       (omega arith, omega arith, rw front (sym (lexed mode.Blank begin b.1) ∙ was))
 
-  pub given : (m : Mode) (g : Mark) (t : Piece) (n : ℕ) → Give g ≡ step_of m k → Going m s start p all → t ≡ at p (sign g) → n ≡ p + 1 → Gives all t (tokens_from s n)
-  given m g t n e h et en =
+  pub given : (m : Mode) (g : Mark) (t : Piece) → Give g ≡ step_of m k → Going m s start p all → t ≡ at p (sign g) → Gives all t (tokens_from s (behind t))
+  given m g t e h et =
       let o = sign_given m k g e in
-      rw (et, en) (not_last (sign_not_last m k g p e) (sym (to_come m s start p all o.0 h) ∙ lexed m (give g) o.1))
+      let no_last = sign_not_last m k g p e in
+      let next : behind (at p (sign g)) ≡ p + 1 = rw no_last refl in
+      rw (et, next) (not_last no_last (sym (to_come m s start p all o.0 h) ∙ lexed m (give g) o.1))
 
 -- a word ends at place p
-ends : (s : List ℕ) (all : List Piece) (start p n : ℕ) (t : Piece) → run (drop p s) ≡ [] → lex mode.Word p (drop p s) ≡ tokens_from s p → Going mode.Word s start p all → t ≡ at start (word (take (p - start) (drop start s))) → n ≡ p → Gives all t (tokens_from s n)
-ends s all start p n t none same h et en = rw (et, en) (not_last refl (sym h.2 ∙ rw (none, same, append-nil) refl))
+ends : (s : List ℕ) (all : List Piece) (start p : ℕ) (t : Piece) → run (drop p s) ≡ [] → lex mode.Word p (drop p s) ≡ tokens_from s p → Going mode.Word s start p all → t ≡ at start (word (take (p - start) (drop start s))) → Gives all t (tokens_from s (behind t))
+ends s all start p t none same h et =
+    let next : start + length (take (p - start) (drop start s)) ≡ p = omega (arith, h.0, h.1, length-take (p - start) (drop start s), length-drop start s) in
+    rw (et, next) (not_last refl (sym h.2 ∙ rw (none, same, append-nil) refl))
 
-pub cut_at : (s : List ℕ) (all : List Piece) (start p n : ℕ) (t : Piece) → p < length s → (m : Mode) (k : Class) → k ≡ class_at (get_or s p 0) (drop (p + 1) s) → Cut ≡ step_of m k → Going m s start p all → t ≡ at start (word (take (p - start) (drop start s))) → n ≡ p → Gives all t (tokens_from s n)
-cut_at s all start p n t in' m k is c h =
+pub cut_at : (s : List ℕ) (all : List Piece) (start p : ℕ) (t : Piece) → p < length s → (m : Mode) (k : Class) → k ≡ class_at (get_or s p 0) (drop (p + 1) s) → Cut ≡ step_of m k → Going m s start p all → t ≡ at start (word (take (p - start) (drop start s))) → Gives all t (tokens_from s (behind t))
+cut_at s all start p t in' m k is c h =
     let w = word_cut m k c in
     let no_byte : word_byte (get_or s p 0) ≡ false = sym (plain_is_word_byte (get_or s p 0) (drop (p + 1) s)) ∙ ap is_plain (sym is) ∙ w.1 in
-    ends s all start p n t
+    ends s all start p t
     (at_drop_more run s p 0 in' ∙ run_ends (get_or s p 0) (drop (p + 1) s) no_byte)
     (lexed s all start p in' k is mode.Word (deed mode.Blank k) (cut_is_fresh k w.1) ∙ sym (lexed s all start p in' k is mode.Blank (deed mode.Blank k) refl))
     (rw w.0 at h)
 
-pub cut_last : (s : List ℕ) (all : List Piece) (start p n : ℕ) (t : Piece) → length s ≤ p → Going mode.Word s start p all → t ≡ at start (word (take (p - start) (drop start s))) → n ≡ p → Gives all t (tokens_from s n)
-cut_last s all start p n t out =
-    ends s all start p n t (at_drop_all run s p out) (at_drop_all (lex mode.Word p) s p out ∙ lex-nil mode.Word p ∙ sym (at_drop_all (lex mode.Blank p) s p out ∙ lex-nil mode.Blank p))
+pub cut_last : (s : List ℕ) (all : List Piece) (start p : ℕ) (t : Piece) → length s ≤ p → Going mode.Word s start p all → t ≡ at start (word (take (length s - start) (drop start s))) → Gives all t (tokens_from s (behind t))
+cut_last s all start p t out h et =
+    let end : length s ≡ p = omega (arith, h.1) in
+    ends s all start p t
+    (at_drop_all run s p out)
+    (at_drop_all (lex mode.Word p) s p out ∙ lex-nil mode.Word p ∙ sym (at_drop_all (lex mode.Blank p) s p out ∙ lex-nil mode.Blank p))
+    h
+    (et ∙ ap (λ n. at start (word (take (n - start) (drop start s)))) end)
 
 -- the text's end, outside a word
-pub last_given : (s : List ℕ) (all : List Piece) (start p : ℕ) → length s ≤ p → (m : Mode) → (m ≡ mode.Word → ⊥) → Going m s start p all → Gives all (at p (sign mark.Last)) (tokens_from s p)
-last_given s all start p out m w h =
+pub last_given : (s : List ℕ) (all : List Piece) (start p : ℕ) (t : Piece) → length s ≤ p → (m : Mode) → (m ≡ mode.Word → ⊥) → Going m s start p all → t ≡ at p (sign mark.Last) → Gives all t (tokens_from s (behind t))
+last_given s all start p t out m w h et =
     let o : outside m ≡ true = grind arith in
     let l = sym (at_drop_all (lex m p) s p out ∙ lex-nil m p) ∙ to_come m s start p all o h in
-    record { more = λ e. absurd (true≢false e); last = λ _. (sym l, (at_drop_all (lex mode.Blank p) s p out ∙ lex-nil mode.Blank p) ∙ l) }
+    rw et record { more = λ e. absurd (true≢false e); last = λ _. (sym l, (at_drop_all (lex mode.Blank p) s p out ∙ lex-nil mode.Blank p) ∙ l) }

@@ -1,5 +1,5 @@
 -- Tokens with their places, and what it is to read one.
-use Rattle.std.specs.Prelude.{◌≡◌, ℕ, Bool, true, false, List, [], ◌∷◌}
+use Rattle.std.specs.Prelude.{◌≡◌, ℕ, ◌+◌, Bool, true, false, if◌then◌else◌, List, [], ◌∷◌, length}
 use Rattle.scan.specs.declared.token.Mark.{Mark}
 use Rattle.scan.specs.declared.token.Mark.TheVariants as mark
 use Rattle.scan.specs.declared.token.Token.{Token}
@@ -33,6 +33,11 @@ is_last (at p (sign mark.Close)) = false
 is_last (at p (sign mark.End)) = false
 is_last (at p (sign mark.Last)) = true
 is_last (at p (sign mark.Stray)) = false
+
+-- the place behind what is said: the text's end takes no byte
+abbrev pub behind : Piece → ℕ
+behind (at p (word w)) = p + length w
+behind (at p (sign k)) = if is_last (at p (sign k)) then p else p + 1
 
 abbrev pub is_stray : Piece → Bool
 is_stray (at p (word w)) = false

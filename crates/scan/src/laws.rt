@@ -1,4 +1,4 @@
-//! What the definition of the tokens comes to.
+//! What the definition of the tokens comes to. Each function states another theorem, so they have nothing in common to share.
 ghost use Rattle.std.specs.Prelude.{◌≡◌, true};
 ghost use Rattle.scan.specs.Kept.{NothingIsLost, NothingHiddenIsSeen};
 ghost use Rattle.scan.specs.Lineation.{LinesAreReadOneByOne, TextsJoinByALineFeed};

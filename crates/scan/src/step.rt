@@ -1,6 +1,6 @@
 //! What the next byte does to a scanner.
 ghost use Rattle.std.specs.Prelude.{◌≡◌, ◌+◌, ◌<◌, length, drop, slice_index};
-ghost use Rattle.scan.specs.Bytes.{feeds, class_of, class_at};
+ghost use Rattle.scan.specs.Bytes.{class_of, class_at};
 ghost use Rattle.scan.specs.Steps.{step_of};
 
 use crate::token::Mark;
@@ -42,12 +42,6 @@ pub enum Step {
     Give(Mark),
 }
 
-fn feeds_at(text: &[u8], place: usize) -> bool
-    ensures { result ≡ feeds (drop place text.now) }
-{
-    place < text.len() && text[place] == b'\n'
-}
-
 // `joins` says whether a line feed comes directly behind the byte.
 fn class_of(b: u8, joins: bool) -> Class
     ensures { result ≡ class_of b joins }
@@ -64,11 +58,12 @@ fn class_of(b: u8, joins: bool) -> Class
     }
 }
 
+// The class of the byte at the place, by that byte and the one behind it.
 pub(crate) fn class_at(text: &[u8], place: usize) -> Class
     requires { place < length text.now }
     ensures { result ≡ class_at (slice_index text.now place) (drop (place + 1) text.now) }
 {
-    class_of(text[place], feeds_at(text, place + 1))
+    class_of(text[place], text.get(place + 1) == Some(&b'\n'))
 }
 
 // What a byte of this class does in this mode.

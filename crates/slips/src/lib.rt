@@ -15,6 +15,7 @@ fn open_with(heap: Global, base: &[u8]) -> Result<(Draft, Rest), Failure>
     let (mut draft, blank) = Draft::new();
     match draft.open(heap, blank, base) {
         Ok(rest) => Ok((draft, rest)),
+        // The token that comes back is given up before the failure goes on.
         Err((blank, failure)) => {
             blank.give_up();
             Err(failure)
@@ -65,6 +66,7 @@ pub fn seal_both(
             let second = two.keep(trial);
             Ok((one.seal(first), two.seal(second)))
         }
+        // The token that comes back is given up before the failure goes on.
         Err((second, failure)) => {
             first.give_up();
             second.give_up();

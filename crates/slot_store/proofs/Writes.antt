@@ -1,13 +1,13 @@
 -- What a write to one slot does to the contents of the memory.
-use Rattle.std.proofs.Common.{◌≡◌, ℕ, ◌+◌, ◌-◌, ◌*◌, ◌/◌, ◌<◌, ◌≤◌, min, true, false, eqb, ltb, List, length, get_or, take, drop, set, Some, None, Option, sym, refl, ap, ◌∙◌, ⊎_elim, arith, length-drop, length-take, get_or-set_other, get_or-set_same}
+use Rattle.std.proofs.Common.{◌≡◌, ℕ, ◌+◌, ◌-◌, ◌*◌, ◌/◌, ◌<◌, ◌≤◌, min, true, false, eqb, ltb, List, length, set, Some, None, Option, sym, refl, ap, ◌∙◌, ⊎_elim, arith, length-drop, length-set, length-take, get_or-set_other, get_or-set_same, rules}
 use Rattle.std.proofs.Math.Path.{fun_ext}
-use Rattle.std.proofs.lemmas.List.{get_or-take, get_or-drop, get_or_past, ext_get_or, length-take-le}
-use Rattle.std.proofs.lemmas.Bool.{cases_eq, eq-eqb, ne_eqb, eqb-true, eqb-false, cases_lt, lt-ltb, le-ltb, le-leb, cond-true, cond-false, cond_both}
+use Rattle.std.proofs.lemmas.List.{get_or-take, get_or-drop, ext_get_or, places}
+use Rattle.std.proofs.lemmas.Slice.{overwrites}
+use borrow.Rule.Slice.PartMut.{put_mid}
+use Rattle.std.proofs.lemmas.Bool.{cases_eq, eq-eqb, ne_eqb, cases_lt, lt-ltb, le-ltb, cond-true, cond-false}
 use Rattle.std.specs.Map.{update}
 use Rattle.std.proofs.lemmas.Map.{update_here, update_apart}
-use Rattle.store.specs.Meaning.{Contents, Short, Octets, byte_at, AllOctets, all_absent}
-use Rattle.store.specs.Answers.{put_contents, clear_contents}
-use Rattle.store.proofs.Octets.{put_octets, clear_octets}
+use Rattle.store.specs.Meaning.{Contents, Short, all_absent}
 use Rattle.slot_store.specs.Layout.{slot_places, mark, slot_bytes, slot_at, slot_contents, Marked, SlotIs, Laid}
 use Rattle.slot_store.specs.LayoutLaws.{beyond_absent, contents_here}
 use Rattle.slot_store.specs.Frame.{Wrote, Unmarked}
@@ -55,37 +55,44 @@ module _ (xs ys : List ℕ) (at m : ℕ) (here : at < slot_places xs) (w : Wrote
   marks_stay_in_range ok le k lt =
       ⊎_elim (λ same. rw same (omega (arith, w.marked))) (λ ne. omega (arith, other_mark_stays k ne, ok k (let l : k < slot_places xs = omega (arith, same_places) in l))) (cases_eq k at)
 
+-- What the two writes do to the memory.
+module _ (xs bytes part : List ℕ) (at : ℕ) (here : at < slot_places xs) (le : length bytes ≤ 64) (p : part ≡ bytes) where
+  pub bytes_written : Wrote xs (put_mid (65 * at + 1) (65 * at + 1 + length bytes - (65 * at + 1)) (set xs (65 * at) (length bytes + 1)) part) at (length bytes + 1)
+  bytes_written = rw p (record {
+    long = search (rules, places);
+    marked = search (rules, places);
+    other = λ j out. grind (arith, places, get_or-set_other, length-set, length-take);
+  })
+
+  pub bytes_stand : slot_bytes (put_mid (65 * at + 1) (65 * at + 1 + length bytes - (65 * at + 1)) (set xs (65 * at) (length bytes + 1)) part) at (length bytes) ≡ bytes
+  bytes_stand = rw p (search (rules, overwrites))
+
+pub mark_cleared : (xs : List ℕ) (at : ℕ) → at < slot_places xs → Wrote xs (set xs (65 * at) 0) at 0
+mark_cleared xs at here = record {
+  long = search (rules, places);
+  marked = search (rules, places);
+  other = λ j out. grind (arith, places, get_or-set_other);
+}
+
 -- A put: xs is what the memory held, and zs what it holds then.
 module _ (xs zs bytes : List ℕ) (at : ℕ) (here : at < slot_places xs) (le : length bytes ≤ 64) (ok : Marked xs) (w : Wrote xs zs at (length bytes + 1)) where
   pub put_is_marked : Marked zs
   put_is_marked = marks_stay_in_range xs zs at _ here w ok (omega arith)
 
-  pub put_is_held : slot_bytes zs at (length bytes) ≡ bytes → slot_contents zs ≡ put_contents (slot_places xs) (slot_contents xs) at bytes
+  pub put_is_held : slot_bytes zs at (length bytes) ≡ bytes → slot_contents zs ≡ update eqb (slot_contents xs) at (Some bytes)
   put_is_held b =
       let p : mark zs at ≡ length bytes + 1 = w.marked in
       let z : eqb (mark zs at) 0 ≡ false = ne_eqb _ _ (omega arith) in
       let n : mark zs at - 1 ≡ length bytes = omega arith in
       slot_is_written xs zs at _ here w (Some bytes) ok (cond-false _ _ _ z ∙ ap Some (rw n b))
-      ∙ sym (cond-true _ _ _ (lt-ltb _ _ here) ∙ cond-true _ _ _ (le-leb _ _ le))
-
-  pub put_stays_octets : slot_bytes zs at (length bytes) ≡ bytes → AllOctets (slot_contents xs) → Octets bytes → AllOctets (slot_contents zs)
-  put_stays_octets b all new = rw (put_is_held b) (put_octets (slot_places xs) (slot_contents xs) at bytes all new)
 
 -- A clear.
 module _ (xs zs : List ℕ) (at : ℕ) (here : at < slot_places xs) (ok : Marked xs) (w : Wrote xs zs at 0) where
   pub clear_is_marked : Marked zs
   clear_is_marked = marks_stay_in_range xs zs at _ here w ok (omega arith)
 
-  pub clear_is_held : slot_contents zs ≡ clear_contents (slot_places xs) (slot_contents xs) at
-  clear_is_held =
-      slot_is_written xs zs at _ here w None ok (cond-true _ _ _ (eq-eqb _ _ w.marked)) ∙ sym (cond-true _ _ _ (lt-ltb _ _ here))
-
-  pub clear_stays_octets : AllOctets (slot_contents xs) → AllOctets (slot_contents zs)
-  clear_stays_octets all = rw clear_is_held (clear_octets (slot_places xs) (slot_contents xs) at all)
-
--- The same of equal lists.
-pub wrote_of_equals : (r xs ys zs : List ℕ) (at m : ℕ) → r ≡ xs → zs ≡ ys → Wrote r ys at m → Wrote xs zs at m
-wrote_of_equals r xs ys zs at m p q w = rw (← p, q) w
+  pub clear_is_held : slot_contents zs ≡ update eqb (slot_contents xs) at None
+  clear_is_held = slot_is_written xs zs at _ here w None ok (cond-true _ _ _ (eq-eqb _ _ w.marked))
 
 -- Memory without a mark has every place absent.
 pub next_mark_cleared : (xs : List ℕ) (p i m : ℕ) → p < slot_places xs → ((k : ℕ) → k < p → mark xs k ≡ 0) → i ≡ 65 * p → m ≡ 0 → (k : ℕ) → k < p + 1 → mark (set xs i m) k ≡ 0
@@ -96,50 +103,13 @@ next_mark_cleared xs p i m lt before e z k h =
     (λ ne. let apart : 65 * k ≡ 65 * p → ⊥ = λ e. ne (omega arith) in get_or-set_other xs (65 * p) (65 * k) 0 0 apart ∙ before k (omega arith))
     (cases_eq k p))
 
-module _ (xs zs : List ℕ) (e : zs ≡ xs) (none : Unmarked xs) where
-  pub unmarked_is_absent : slot_contents zs ≡ all_absent
+module _ (xs : List ℕ) (none : Unmarked xs) where
+  pub unmarked_is_absent : slot_contents xs ≡ all_absent
   unmarked_is_absent =
-      rw e (fun_ext (λ k. ⊎_elim (λ lt. contents_here xs k lt ∙ cond-true _ _ _ (eq-eqb _ _ (none k lt))) (λ ge. beyond_absent xs k ge) (cases_lt k (slot_places xs))))
+      fun_ext (λ k. ⊎_elim (λ lt. contents_here xs k lt ∙ cond-true _ _ _ (eq-eqb _ _ (none k lt))) (λ ge. beyond_absent xs k ge) (cases_lt k (slot_places xs)))
 
-  pub unmarked_is_marked : Marked zs
-  unmarked_is_marked = rw e (λ k lt. omega (arith, none k lt))
-
-  pub unmarked_is_octets : AllOctets (slot_contents zs)
-  unmarked_is_octets k j = rw unmarked_is_absent (omega arith)
-
--- What bytes hold are bytes.
-part_is_octets : (xs : List ℕ) (i n : ℕ) → Octets xs → Octets (take n (drop i xs))
-part_is_octets xs i n all j =
-    let within : j < n → get_or (take n (drop i xs)) j 0 < 256 = λ lt. rw (get_or-take, get_or-drop) (all (i + j)) in
-    let past : n ≤ j → get_or (take n (drop i xs)) j 0 < 256 =
-    λ ge. let none : get_or (take n (drop i xs)) j 0 ≡ 0 = get_or_past (take n (drop i xs)) j 0 (simp length-take (omega arith)) in omega arith in
-    ⊎_elim within past (cases_lt j n)
-
-octets_are_held : (xs : List ℕ) → Octets xs → AllOctets (slot_contents xs)
-octets_are_held xs all k j =
-    ⊎_elim
-    (λ lt. rw (contents_here xs k lt) (cond_both (eqb (mark xs k) 0) _ _ (λ o. byte_at o j < 256) (λ _. omega arith) (λ _. part_is_octets xs (65 * k + 1) (mark xs k - 1) all j)))
-    (λ ge. rw (beyond_absent xs k ge) (omega arith))
-    (cases_lt k (slot_places xs))
-
-pub opened_is_marked : (r xs : List ℕ) → r ≡ xs → Marked r → Marked xs
-opened_is_marked r xs e ok = rw (← e) ok
-
-pub opened_is_octets : (r xs : List ℕ) → r ≡ xs → Octets r → AllOctets (slot_contents xs)
-opened_is_octets r xs e all = rw (← e) (octets_are_held r all)
-
--- The layout of what the memory holds.
-slot_is_laid : (xs : List ℕ) (k : ℕ) → k < slot_places xs → mark xs k ≤ 65 → SlotIs xs k (slot_at xs k)
-slot_is_laid xs k lt le =
-    cond_both (eqb (mark xs k) 0) _ _ (SlotIs xs k)
-    (λ z. eqb-true _ _ z)
-    (λ z.
-    let long : length (slot_bytes xs k (mark xs k - 1)) ≡ mark xs k - 1 = length-take-le _ _ (simp length-drop (omega arith)) in
-    let ne = eqb-false _ _ z in
-    (omega arith, rw long refl))
-
-pub contents_are_laid : (xs : List ℕ) → Marked xs → Laid xs (slot_contents xs)
-contents_are_laid xs ok k lt = rw (contents_here xs k lt) (slot_is_laid xs k lt (ok k lt))
+  pub unmarked_is_marked : Marked xs
+  unmarked_is_marked k lt = omega (arith, none k lt)
 
 slot_laid_is_marked : (xs : List ℕ) (k : ℕ) (o : Option (List ℕ)) → Short o → SlotIs xs k o → mark xs k ≤ 65
 slot_laid_is_marked xs k None s h = omega arith

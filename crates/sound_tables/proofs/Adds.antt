@@ -14,8 +14,9 @@ use Rattle.label.specs.declared.rights.Rights.{Rights}
 use Rattle.rules.proofs.Adds.{distinct_after_push, not_refused}
 use Rattle.rules.specs.declared.rule.Rule.{Rule}
 use Rattle.tables.proofs.Enters.{few_after_push}
+use Rattle.tables.specs.Entries.{count_of}
 use Rattle.tables.specs.Begins.{declared_in}
-use Rattle.tables.specs.Holdings.{nothing as holds_nothing, rights_on, listed, with_rights, with_passage}
+use Rattle.tables.specs.Holdings.{no_way, has_way, with_way, nothing as holds_nothing, ways_to, rights_on, listed, with_rights, with_passage}
 use Rattle.tables.specs.Model.{Model, holding_of, with_type, with_domain, with_default, with_rule, with_object, with_entry, with_holding, with_apart, unless, refuses_type, refuses_domain, refuses_default, refuses_rule, refuses_object, refuses_entry, refuses_rights, refuses_passage, refuses_apart}
 use Rattle.tables.specs.declared.entry.Entry.{Entry}
 use Rattle.tables.specs.declared.holding.Holding.{Holding}
@@ -61,33 +62,31 @@ still_declared (Some d) n m l e = let h = ltb-true d.0 n e in lt-ltb d.0 m (omeg
 -- ── What a domain holds ──
 
 rights_kept : (h : Holding) (how : Passage) (e t : ℕ) → rights_on (with_passage h how e) t ≡ rights_on h t
-rights_kept h Auto e t = refl
-rights_kept h Exec e t = refl
+rights_kept h how e t = refl
 
 passages_kept : (h : Holding) (t : ℕ) (r : Rights) (how : Passage) (e : ℕ) → listed (with_rights h t r) how e ≡ listed h how e
-passages_kept h t r Auto e = refl
-passages_kept h t r Exec e = refl
+passages_kept h t r how e = refl
 
 no_rights_beyond : (h : Holding) (t : ℕ) (r : Rights) (u : ℕ) → t < u → rights_on h u ≡ none → rights_on (with_rights h t r) u ≡ none
 no_rights_beyond h t r u l e = after_write (λ x. x ≡ none) h.rights t u (union (rights_on h t) r) none (λ q. absurd (omega arith)) e
 
 no_passage_beyond : (h : Holding) (how : Passage) (d : ℕ) (how' : Passage) (e : ℕ) → d < e → listed h how' e ≡ false → listed (with_passage h how d) how' e ≡ false
-no_passage_beyond h Auto d Auto e l n = after_write (λ x. x ≡ false) h.autos d e true false (λ q. absurd (omega arith)) n
-no_passage_beyond h Auto d Exec e l n = n
-no_passage_beyond h Exec d Auto e l n = n
-no_passage_beyond h Exec d Exec e l n = after_write (λ x. x ≡ false) h.execs d e true false (λ q. absurd (omega arith)) n
+no_passage_beyond h how d how' e l n = after_write (λ w. has_way w how' ≡ false) h.passages d e (with_way (ways_to h d) how) no_way (λ q. absurd (omega arith)) n
 
 -- ── Before any module ──
 
-no_passage : (how : Passage) (e : ℕ) → listed holds_nothing how e ≡ false
-no_passage Auto e = in_copies (λ x. x ≡ false) 32 e false false refl refl
-no_passage Exec e = in_copies (λ x. x ≡ false) 32 e false false refl refl
+in_no_way : (how : Passage) → has_way no_way how ≡ false
+in_no_way Auto = refl
+in_no_way Exec = refl
 
-none_past : (how : Passage) (e : ℕ) → listed (record { rights = []; autos = []; execs = [] }) how e ≡ false
-none_past Auto e = refl
-none_past Exec e = refl
+no_passage : (how : Passage) (e : ℕ) → listed holds_nothing how e ≡ false
+no_passage how e = in_copies (λ w. has_way w how ≡ false) 32 e no_way no_way (in_no_way how) (in_no_way how)
+
+none_past : (how : Passage) (e : ℕ) → listed (record { rights = []; passages = [] }) how e ≡ false
+none_past how e = in_no_way how
 
 pub nothing_is_sound : Sound nothing
+unfolding count_of
 nothing_is_sound = record {
   limits = record { types = omega arith; domains = omega arith; rules = omega arith; objects = omega arith; aparts = omega arith; entries = λ d. omega arith };
   once = record {

@@ -12,10 +12,11 @@ use Rattle.rules.specs.Typing.{stands_on, rule_on}
 use Rattle.rules.specs.declared.rule.Flag.{Flag}
 use Rattle.rules.specs.declared.rule.Flag.TheVariants.{R}
 use Rattle.rules.specs.declared.rule.Rule.{Rule}
-use Rattle.tables.specs.Holdings.{rights_on, listed, with_rights, with_passage}
+use Rattle.tables.specs.Holdings.{no_way, has_way, with_way, ways_to, rights_on, listed, with_rights, with_passage}
 use Rattle.tables.specs.Model.{holding_of, with_type, with_domain, with_default, with_rule, with_object, with_entry, with_holding, with_apart, refuses_default}
 use Rattle.tables.specs.declared.entry.Entry.{Entry}
 use Rattle.tables.specs.declared.holding.Holding.{Holding}
+use Rattle.tables.specs.declared.holding.Ways.{Ways}
 use Rattle.tables.specs.declared.holding.Passage.{Passage}
 use Rattle.tables.specs.declared.holding.Passage.TheVariants.{Auto, Exec}
 use Rattle.tables.specs.declared.table.Apart.{Apart}
@@ -75,18 +76,22 @@ letters_stay h t r u l e =
     e
 
 letters_beside : (h : Holding) (how : Passage) (e t l : ℕ) → has (rights_on h t) l ≡ true → has (rights_on (with_passage h how e) t) l ≡ true
-letters_beside h Auto e t l p = p
-letters_beside h Exec e t l p = p
+letters_beside h how e t l p = p
+
+way_stays : (w : Ways) (how how' : Passage) → has_way w how' ≡ true → has_way (with_way w how) how' ≡ true
+way_stays w Auto Auto p = refl
+way_stays w Auto Exec p = p
+way_stays w Exec Auto p = p
+way_stays w Exec Exec p = refl
 
 passages_stay : (h : Holding) (how : Passage) (d : ℕ) (how' : Passage) (e : ℕ) → listed h how' e ≡ true → listed (with_passage h how d) how' e ≡ true
-passages_stay h Auto d Auto e p = after_write (λ x. x ≡ true) h.autos d e true false (λ _. refl) p
-passages_stay h Auto d Exec e p = p
-passages_stay h Exec d Auto e p = p
-passages_stay h Exec d Exec e p = after_write (λ x. x ≡ true) h.execs d e true false (λ _. refl) p
+passages_stay h how d how' e p =
+    after_write (λ w. has_way w how' ≡ true) h.passages d e (with_way (ways_to h d) how) no_way
+    (λ q. way_stays (ways_to h d) how how' (ap (λ v. has_way (ways_to h v) how') (sym q) ∙ p))
+    p
 
 passages_beside : (h : Holding) (t : ℕ) (r : Rights) (how : Passage) (e : ℕ) → listed h how e ≡ true → listed (with_rights h t r) how e ≡ true
-passages_beside h t r Auto e p = p
-passages_beside h t r Exec e p = p
+passages_beside h t r how e p = p
 
 -- ── Statements ──
 

@@ -1,11 +1,15 @@
-//! A store keeps small contents by place. This crate says what every make of store means; the makes are crates of their own.
+//! A store keeps small contents by place. This crate says what every store means, and makes one over a memory of any layout; the
+//! layouts are crates of their own.
 #![tactic(auto)]
 
-ghost use Rattle.std.specs.Prelude.{◌≡◌, ℕ, ◌≤◌, List, length, None, Option};
+ghost use Rattle.std.specs.Prelude.{◌≡◌, ℕ, ◌≤◌, List, length, Some, None, Option};
 ghost use Rattle.store.specs.Meaning.{Contents, Short, AllOctets};
 ghost use Rattle.store.specs.Answers.{get_answer, get_buffer, put_answer, put_contents, clear_answer, clear_contents};
 ghost use Rattle.store.specs.Laws.{LowestRefuses, RefusalChangesNothing, OnePlaceChanges};
 ghost use Rattle.store.specs.Number.{number};
+ghost use Rattle.store.specs.Texts.{printed};
+
+use std::fmt;
 
 /// The most bytes that a place can hold, and the least length of a buffer for a get.
 pub const LONGEST: usize = 64;
@@ -36,6 +40,22 @@ impl StoreRefusal {
         }
     }
 }
+
+impl fmt::Display for StoreRefusal {
+    ghost output = { λ e. Some (printed e) };
+
+    fn fmt<W: fmt::Write>(&self, f: &mut fmt::Formatter<W>) -> fmt::Result {
+        let number = self.number();
+        let reason = match self {
+            StoreRefusal::NoPlace => "the store has no such place",
+            StoreRefusal::TooLong => "more than 64 bytes",
+            StoreRefusal::SmallBuffer => "a buffer of fewer than 64 bytes",
+        };
+        write!(f, "refused {number}: {reason}")
+    }
+}
+
+impl std::error::Error for StoreRefusal {}
 
 /// Memory that is not a store's, handed back as it was.
 #[derive(Drop, Debug)]
@@ -79,6 +99,8 @@ pub trait Store {
         ensures contents { contents self.new ≡ clear_contents (places self.old) (contents self.old) place }
         ensures places { places self.new ≡ places self.old };
 }
+
+pub mod memory;
 
 /// What the answers and contents that every store's promises speak of come to.
 pub fn meaning_stands() -> bool

@@ -3,21 +3,44 @@
 
 ghost use Rattle.std.specs.Prelude.{◌≡◌, IfOk, string_bytes, MatchResult};
 ghost use Rattle.store_report.specs.declared.ImageError.TheVariants.{NotAStore as Foreign, Refused, OutOfMemory};
+ghost use Rattle.store_report.specs.Names.{ReadsMake};
 ghost use Rattle.store_report.specs.Images.{Listed, ListFails, PutDone, PutFails, ClearDone, ClearFails, FreshImage};
 
-use packed_store::PackedStore;
-use slot_store::SlotStore;
+use image::Image;
+use packed_store::records::Records;
+use slot_store::slots::Slots;
 use std::alloc::{AllocError, Global};
 use std::fmt;
+use std::str::FromStr;
+use store::memory::MemoryStore;
 use store::{NotAStore, Store, StoreRefusal};
 
+mod image;
 pub mod listing;
 
-/// The make of store that an image belongs to.
+/// The make of store that an image belongs to. Each make of store is a type of its own, so each call chooses between the two.
 #[derive(Clone, Copy)]
 pub enum Make {
     Slot,
     Packed,
+}
+
+/// A text that names no make.
+#[derive(Clone, Copy, PartialEq, Eq, Debug)]
+pub struct UnknownMake;
+
+impl FromStr for Make {
+    type Err = UnknownMake;
+
+    ghost from_str_gives = { ReadsMake };
+
+    fn from_str(text: &str) -> Result<Make, UnknownMake> {
+        match text {
+            "slot" => Ok(Make::Slot),
+            "packed" => Ok(Make::Packed),
+            _ => Err(UnknownMake),
+        }
+    }
 }
 
 /// Why an image is not listed or changed.
@@ -55,20 +78,11 @@ impl From<AllocError> for ImageError {
     }
 }
 
-fn list_slots(heap: Global, image: Vec<u8>) -> Result<String, ImageError>
-    ensures { MatchResult result (λ text. Listed Make.Slot image.items (string_bytes text)) (ListFails Make.Slot image.items) }
+fn list_in<L: Image>(heap: Global, image: Vec<u8>) -> Result<String, ImageError>
+    ensures { MatchResult result (λ text. Listed L.make image.items (string_bytes text)) (ListFails L.make image.items) }
 {
-    let store = SlotStore::open(image)?;
-    let text = listing::list(heap, &store)?;
-    Ok(text)
-}
-
-fn list_records(heap: Global, image: Vec<u8>) -> Result<String, ImageError>
-    ensures { MatchResult result (λ text. Listed Make.Packed image.items (string_bytes text)) (ListFails Make.Packed image.items) }
-{
-    let store = PackedStore::open(image)?;
-    let text = listing::list(heap, &store)?;
-    Ok(text)
+    let store = MemoryStore::<L>::open(image)?;
+    Ok(listing::list(heap, &store)?)
 }
 
 /// A line for each place of the image.
@@ -76,23 +90,15 @@ pub fn list_image(heap: Global, make: Make, image: Vec<u8>) -> Result<String, Im
     ensures { MatchResult result (λ text. Listed make image.items (string_bytes text)) (ListFails make image.items) }
 {
     match make {
-        Make::Slot => list_slots(heap, image),
-        Make::Packed => list_records(heap, image),
+        Make::Slot => list_in::<Slots>(heap, image),
+        Make::Packed => list_in::<Records>(heap, image),
     }
 }
 
-fn put_in_slots(image: Vec<u8>, place: usize, bytes: &[u8]) -> Result<Vec<u8>, ImageError>
-    ensures { MatchResult result (λ changed. PutDone Make.Slot image.items place bytes.now changed.items) (PutFails Make.Slot image.items place bytes.now) }
+fn put_in<L: Image>(image: Vec<u8>, place: usize, bytes: &[u8]) -> Result<Vec<u8>, ImageError>
+    ensures { MatchResult result (λ changed. PutDone L.make image.items place bytes.now changed.items) (PutFails L.make image.items place bytes.now) }
 {
-    let mut store = SlotStore::open(image)?;
-    store.put(place, bytes)?;
-    Ok(store.into_memory())
-}
-
-fn put_in_records(image: Vec<u8>, place: usize, bytes: &[u8]) -> Result<Vec<u8>, ImageError>
-    ensures { MatchResult result (λ changed. PutDone Make.Packed image.items place bytes.now changed.items) (PutFails Make.Packed image.items place bytes.now) }
-{
-    let mut store = PackedStore::open(image)?;
+    let mut store = MemoryStore::<L>::open(image)?;
     store.put(place, bytes)?;
     Ok(store.into_memory())
 }
@@ -107,23 +113,15 @@ pub fn put_in_image(
     ensures { MatchResult result (λ changed. PutDone make image.items place bytes.now changed.items) (PutFails make image.items place bytes.now) }
 {
     match make {
-        Make::Slot => put_in_slots(image, place, bytes),
-        Make::Packed => put_in_records(image, place, bytes),
+        Make::Slot => put_in::<Slots>(image, place, bytes),
+        Make::Packed => put_in::<Records>(image, place, bytes),
     }
 }
 
-fn clear_in_slots(image: Vec<u8>, place: usize) -> Result<Vec<u8>, ImageError>
-    ensures { MatchResult result (λ changed. ClearDone Make.Slot image.items place changed.items) (ClearFails Make.Slot image.items place) }
+fn clear_in<L: Image>(image: Vec<u8>, place: usize) -> Result<Vec<u8>, ImageError>
+    ensures { MatchResult result (λ changed. ClearDone L.make image.items place changed.items) (ClearFails L.make image.items place) }
 {
-    let mut store = SlotStore::open(image)?;
-    store.clear(place)?;
-    Ok(store.into_memory())
-}
-
-fn clear_in_records(image: Vec<u8>, place: usize) -> Result<Vec<u8>, ImageError>
-    ensures { MatchResult result (λ changed. ClearDone Make.Packed image.items place changed.items) (ClearFails Make.Packed image.items place) }
-{
-    let mut store = PackedStore::open(image)?;
+    let mut store = MemoryStore::<L>::open(image)?;
     store.clear(place)?;
     Ok(store.into_memory())
 }
@@ -133,9 +131,16 @@ pub fn clear_in_image(make: Make, image: Vec<u8>, place: usize) -> Result<Vec<u8
     ensures { MatchResult result (λ changed. ClearDone make image.items place changed.items) (ClearFails make image.items place) }
 {
     match make {
-        Make::Slot => clear_in_slots(image, place),
-        Make::Packed => clear_in_records(image, place),
+        Make::Slot => clear_in::<Slots>(image, place),
+        Make::Packed => clear_in::<Records>(image, place),
     }
+}
+
+fn fresh_in<L: Image>(heap: Global, places: u8) -> Result<Vec<u8>, AllocError>
+    ensures { IfOk result (λ image. FreshImage L.make places image.items) }
+{
+    let memory = vec![in heap; 0; L::PLACE as usize * places as usize]?;
+    Ok(MemoryStore::<L>::fresh(memory).into_memory())
 }
 
 /// The image of a fresh store with so many places, of which at most 128 count.
@@ -143,14 +148,8 @@ pub fn fresh_image(heap: Global, make: Make, places: u8) -> Result<Vec<u8>, Allo
     ensures { IfOk result (λ image. FreshImage make places image.items) }
 {
     match make {
-        Make::Slot => {
-            let memory = vec![in heap; 0; 65 * places as usize]?;
-            Ok(SlotStore::fresh(memory).into_memory())
-        }
-        Make::Packed => {
-            let memory = vec![in heap; 0; 66 * places as usize]?;
-            Ok(PackedStore::fresh(memory).into_memory())
-        }
+        Make::Slot => fresh_in::<Slots>(heap, places),
+        Make::Packed => fresh_in::<Records>(heap, places),
     }
 }
 
@@ -158,15 +157,7 @@ impl fmt::Display for ImageError {
     fn fmt<W: fmt::Write>(&self, f: &mut fmt::Formatter<W>) -> fmt::Result {
         match self {
             ImageError::NotAStore => write!(f, "the image is not a store's of this make"),
-            ImageError::Refused(refusal) => {
-                let number = refusal.number();
-                let reason = match refusal {
-                    StoreRefusal::NoPlace => "the store has no such place",
-                    StoreRefusal::TooLong => "more than 64 bytes",
-                    StoreRefusal::SmallBuffer => "a buffer of fewer than 64 bytes",
-                };
-                write!(f, "refused {number}: {reason}")
-            }
+            ImageError::Refused(refusal) => write!(f, "{refusal}"),
             ImageError::OutOfMemory => write!(f, "out of memory"),
         }
     }

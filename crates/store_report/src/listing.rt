@@ -1,74 +1,29 @@
-ghost use Rattle.std.specs.Prelude.{◌≡◌, ℕ, ◌<◌, ◌≤◌, false, List, ◌++◌, length, IfOk, Some, None, string_bytes, OnOk};
+ghost use Rattle.std.specs.Prelude.{◌≡◌, ℕ, ◌<◌, ◌≤◌, List, ◌++◌, length, IfOk, Some, string_bytes, OnOk};
 ghost use Rattle.std.specs.Option.{option_map};
-ghost use Rattle.std.specs.Fmt.{digit_glyph};
 ghost use Rattle.store.specs.Answers.{laid};
-ghost use Rattle.store_report.specs.Listing.{pairs, hex, heading, line, listing};
+ghost use Rattle.store_report.specs.Listing.{hex, line, listing};
 
 use std::alloc::{AllocError, Global};
+use std::fmt;
+use std::fmt::Write;
 use store::{LONGEST, Store};
 
-fn hex_digit(value: u8) -> char
-    requires { value < 16 }
-    ensures digit { result ≡ digit_glyph false value }
-    ensures ascii { result < 128 }
-{
-    if value < 10 {
-        (b'0' + value) as char
-    } else {
-        (b'a' + (value - 10)) as char
+// Two lower-case hexadecimal digits a byte, and `-` for no bytes.
+#[derive(Drop)]
+struct Hex<'a>(&'a [u8]);
+
+impl<'a> fmt::Display for Hex<'a> {
+    ghost output = { λ h. Some (hex h.0.now) };
+
+    fn fmt<W: fmt::Write>(&self, f: &mut fmt::Formatter<W>) -> fmt::Result {
+        if self.0.is_empty() {
+            return f.write_str("-");
+        }
+        for &byte in self.0 {
+            write!(f, "{byte:02x}")?;
+        }
+        Ok(())
     }
-}
-
-fn push_pairs(text: &mut String, bytes: &[u8]) -> Result<(), AllocError>
-    ensures { OnOk result (string_bytes text.new ≡ string_bytes text.old ++ pairs bytes.now) }
-{
-    for byte in bytes {
-        text.push(hex_digit(*byte / 16))?;
-        text.push(hex_digit(*byte % 16))?;
-    }
-    Ok(())
-}
-
-fn push_hex(text: &mut String, bytes: &[u8]) -> Result<(), AllocError>
-    ensures { OnOk result (string_bytes text.new ≡ string_bytes text.old ++ hex bytes.now) }
-{
-    if bytes.is_empty() {
-        return text.push_str("-");
-    }
-    push_pairs(text, bytes)
-}
-
-fn push_place(text: &mut String, heap: Global, place: usize) -> Result<(), AllocError>
-    ensures { OnOk result (string_bytes text.new ≡ string_bytes text.old ++ heading place) }
-{
-    let number = place.to_string(heap)?;
-    text.push_str("place ")?;
-    text.push_str(number.as_str())?;
-    text.push_str(" ")?;
-    Ok(())
-}
-
-fn push_absent(text: &mut String, heap: Global, place: usize) -> Result<(), AllocError>
-    ensures { OnOk result (string_bytes text.new ≡ string_bytes text.old ++ line place None) }
-{
-    push_place(text, heap, place)?;
-    text.push_str("absent\n")?;
-    Ok(())
-}
-
-fn push_present(
-    text: &mut String,
-    heap: Global,
-    place: usize,
-    bytes: &[u8],
-) -> Result<(), AllocError>
-    ensures { OnOk result (string_bytes text.new ≡ string_bytes text.old ++ line place (Some bytes.now)) }
-{
-    push_place(text, heap, place)?;
-    text.push_str("present ")?;
-    push_hex(text, bytes)?;
-    text.push_str("\n")?;
-    Ok(())
 }
 
 // The length of what the place holds, whose bytes are then the buffer's first.
@@ -78,16 +33,12 @@ fn read<S: Store>(store: &S, place: usize, buffer: &mut [u8]) -> Option<usize>
     ensures length { result ≡ option_map length (S.contents store.now place) }
     ensures buffer { buffer.new ≡ laid (S.contents store.now place) buffer.old }
 {
-    match store.get(place, buffer) {
-        Ok(found) => found,
-        Err(_) => unreachable!(),
-    }
+    store.get(place, buffer).unwrap()
 }
 
 // Appends the line of the place, whose bytes go through the buffer.
 fn push_line<S: Store>(
     text: &mut String,
-    heap: Global,
     store: &S,
     place: usize,
     buffer: &mut [u8],
@@ -97,8 +48,8 @@ fn push_line<S: Store>(
     ensures { OnOk result (string_bytes text.new ≡ string_bytes text.old ++ line place (S.contents store.now place)) }
 {
     match read(store, place, buffer) {
-        None => push_absent(text, heap, place),
-        Some(len) => push_present(text, heap, place, &buffer[0..len]),
+        None => writeln!(text, "place {place} absent"),
+        Some(len) => writeln!(text, "place {place} present {}", Hex(&buffer[..len])),
     }
 }
 
@@ -108,8 +59,9 @@ pub fn list<S: Store>(heap: Global, store: &S) -> Result<String, AllocError>
 {
     let mut text = String::new(heap);
     let mut block = [0u8; LONGEST];
+    // Each line may fail for memory, and the first that does ends the listing.
     for place in 0..store.place_count() {
-        push_line(&mut text, heap, store, place, &mut block)?;
+        push_line(&mut text, store, place, &mut block)?;
     }
     Ok(text)
 }

@@ -4,11 +4,14 @@
 #[cfg(test)]
 mod tests {
     use packed_store::PackedStore;
+    use packed_store::records::Records;
     use slot_store::SlotStore;
+    use slot_store::slots::Slots;
     use std::alloc::{AllocError, Global};
     use std::process::Abort;
     use std::test::Fail;
-    use store::{NotAStore, Store};
+    use store::memory::{Layout, MemoryStore};
+    use store::{NotAStore, Store, StoreRefusal};
     use store_report::Make;
 
     // What a buffer holds before a get.
@@ -23,6 +26,7 @@ mod tests {
         Get(usize, usize),
     }
 
+    // One type for the answers of all three calls, so that a table can hold them; a refusal is its number.
     #[derive(Clone, Copy, PartialEq, Eq, Debug)]
     enum Answer {
         Taken,
@@ -34,38 +38,27 @@ mod tests {
 
     // How many bytes at the front of the buffer have the value.
     fn run_of(value: u8, buffer: &[u8]) -> usize {
-        let mut count: usize = 0;
-        for byte in buffer {
-            if *byte != value {
-                return count;
-            }
-            count = count.saturating_add(1);
-        }
-        count
+        buffer.iter().take_while(|byte| **byte == value).count()
     }
 
     fn unchanged_behind(len: usize, buffer: &[u8]) -> bool {
-        for byte in buffer.iter().skip(len) {
-            if *byte != STALE {
-                return false;
-            }
+        buffer.iter().skip(len).all(|byte| *byte == STALE)
+    }
+
+    fn taken(answer: Result<(), StoreRefusal>) -> Answer {
+        match answer {
+            Ok(()) => Answer::Taken,
+            Err(e) => Answer::Refused(e.number()),
         }
-        true
     }
 
     fn put<S: Store>(store: &mut S, place: usize, len: usize, value: u8) -> Answer {
         let bytes = [value; 80];
-        match store.put(place, &bytes[0..len.min(80)]) {
-            Ok(()) => Answer::Taken,
-            Err(e) => Answer::Refused(e.number()),
-        }
+        taken(store.put(place, &bytes[0..len.min(80)]))
     }
 
     fn clear<S: Store>(store: &mut S, place: usize) -> Answer {
-        match store.clear(place) {
-            Ok(()) => Answer::Taken,
-            Err(e) => Answer::Refused(e.number()),
-        }
+        taken(store.clear(place))
     }
 
     fn get_into<S: Store>(store: &S, place: usize, buffer: &mut [u8]) -> Answer {
@@ -186,14 +179,8 @@ mod tests {
     fn image(heap: Global, front: &[u8], length: usize) -> Result<Vec<u8>, AllocError> {
         let mut memory = Vec::new(heap);
         memory.extend_from_slice(front)?;
-        for _ in front.len()..length {
-            memory.push(9)?;
-        }
+        memory.resize(length.max(front.len()), 9)?;
         Ok(memory)
-    }
-
-    fn begins_with(front: &[u8], memory: &[u8]) -> bool {
-        front.len() <= memory.len() && &memory[0..front.len()] == front
     }
 
     #[test]
@@ -206,47 +193,52 @@ mod tests {
             assert_eq!(rt; put(&mut packed, place, len, 7), Answer::Taken);
         }
         let memory = packed.into_memory();
-        assert!(rt; begins_with(&[0, 1, 7, 1, 0, 2, 2, 7, 7, 255, 9], memory.as_slice()));
+        assert!(rt;
+            memory
+                .as_slice()
+                .starts_with(&[0, 1, 7, 1, 0, 2, 2, 7, 7, 255, 9])
+        );
         let memory = slot.into_memory();
         assert!(rt; memory.len() == 195);
-        assert!(rt; begins_with(&[2, 7, 9], memory.as_slice()));
-        assert!(rt; begins_with(&[1, 9], &memory[65..195]));
-        assert!(rt; begins_with(&[3, 7, 7, 9], &memory[130..195]));
+        assert!(rt; memory.as_slice().starts_with(&[2, 7, 9]));
+        assert!(rt; memory[65..195].starts_with(&[1, 9]));
+        assert!(rt; memory[130..195].starts_with(&[3, 7, 7, 9]));
         Ok(())
+    }
+
+    // The answers to a put, to a get when the memory is opened again, and to a get when it is made fresh.
+    fn closed_and_opened<L: Layout>(heap: Global) -> Result<[Answer; 3], Fail> {
+        let mut store = MemoryStore::<L>::fresh(vec![in heap; 9; 200]?);
+        let first = put(&mut store, 1, 3, 7);
+        let store = MemoryStore::<L>::open(store.into_memory())?;
+        let second = get(&store, 1, 64);
+        let store = MemoryStore::<L>::fresh(store.into_memory());
+        Ok([first, second, get(&store, 1, 64)])
     }
 
     #[test]
     fn a_closed_store_opens_again(rt: HostRuntime) -> Result<(), Fail> {
         let heap = rt.alloc();
-        let mut slot = SlotStore::fresh(vec![in heap; 9; 200]?);
-        assert_eq!(rt; put(&mut slot, 1, 3, 7), Answer::Taken);
-        let slot = SlotStore::open(slot.into_memory())?;
-        assert_eq!(rt; get(&slot, 1, 64), Answer::Present(3, 7, true));
-        let slot = SlotStore::fresh(slot.into_memory());
-        assert_eq!(rt; get(&slot, 1, 64), Answer::Absent);
-        let mut packed = PackedStore::fresh(vec![in heap; 9; 200]?);
-        assert_eq!(rt; put(&mut packed, 1, 3, 7), Answer::Taken);
-        let packed = PackedStore::open(packed.into_memory())?;
-        assert_eq!(rt; get(&packed, 1, 64), Answer::Present(3, 7, true));
-        let packed = PackedStore::fresh(packed.into_memory());
-        assert_eq!(rt; get(&packed, 1, 64), Answer::Absent);
+        let expected = [Answer::Taken, Answer::Present(3, 7, true), Answer::Absent];
+        assert_eq!(rt; closed_and_opened::<Slots>(heap)?, expected);
+        assert_eq!(rt; closed_and_opened::<Records>(heap)?, expected);
         Ok(())
     }
 
     // That what was refused is the memory that was handed in.
     fn check_returned(rt: &impl Abort, memory: Vec<u8>, front: &[u8], length: usize, why: &str) {
         assert_eq!(rt; memory.len(), length, "{why}");
-        assert!(rt; begins_with(front, memory.as_slice()), "{why}");
+        assert!(rt; memory.as_slice().starts_with(front), "{why}");
     }
 
-    fn check_packed_refused(
+    fn check_refused<L: Layout>(
         rt: &impl Abort,
         heap: Global,
         front: &[u8],
         length: usize,
         why: &str,
     ) -> Result<(), Fail> {
-        match PackedStore::open(image(heap, front, length)?) {
+        match MemoryStore::<L>::open(image(heap, front, length)?) {
             Ok(_) => Err(Fail::new(format_args!("{why}: damaged memory was opened"))),
             Err(e) => {
                 let NotAStore { memory } = e;
@@ -259,19 +251,19 @@ mod tests {
     #[test]
     fn damaged_records_are_refused(rt: HostRuntime) -> Result<(), Fail> {
         let heap = rt.alloc();
-        check_packed_refused(&rt, heap, &[0, 65, 255], 132, "more than 64 bytes")?;
-        check_packed_refused(&rt, heap, &[1, 0, 0, 0, 255], 132, "a falling place")?;
-        check_packed_refused(&rt, heap, &[1, 0, 1, 0, 255], 132, "a place twice")?;
-        check_packed_refused(
+        check_refused::<Records>(&rt, heap, &[0, 65, 255], 132, "more than 64 bytes")?;
+        check_refused::<Records>(&rt, heap, &[1, 0, 0, 0, 255], 132, "a falling place")?;
+        check_refused::<Records>(&rt, heap, &[1, 0, 1, 0, 255], 132, "a place twice")?;
+        check_refused::<Records>(
             &rt,
             heap,
             &[0, 0, 2, 0, 255],
             132,
             "a place beyond the places",
         )?;
-        check_packed_refused(&rt, heap, &[0, 1, 7, 254], 132, "no end")?;
-        check_packed_refused(&rt, heap, &[0], 1, "a byte and no place")?;
-        check_packed_refused(&rt, heap, &[0, 64, 7], 65, "a record and no place")
+        check_refused::<Records>(&rt, heap, &[0, 1, 7, 254], 132, "no end")?;
+        check_refused::<Records>(&rt, heap, &[0], 1, "a byte and no place")?;
+        check_refused::<Records>(&rt, heap, &[0, 64, 7], 65, "a record and no place")
     }
 
     #[test]
@@ -296,14 +288,7 @@ mod tests {
         let heap = rt.alloc();
         let slot = SlotStore::open(image(heap, &[65], 65)?)?;
         assert_eq!(rt; get(&slot, 0, 64), Answer::Present(64, 9, true));
-        match SlotStore::open(image(heap, &[66], 130)?) {
-            Ok(_) => Err(Fail::new("damaged memory was opened")),
-            Err(e) => {
-                let NotAStore { memory } = e;
-                check_returned(&rt, memory, &[66], 130, "a mark above 65");
-                Ok(())
-            }
-        }
+        check_refused::<Slots>(&rt, heap, &[66], 130, "a mark above 65")
     }
 
     #[test]

@@ -1,5 +1,5 @@
 -- What the tables of a policy say.
-use Rattle.std.specs.Prelude.{ℕ, Bool, false, cond, ◌||◌, List, [], ◌∷◌, ◌++◌, map, length, replicate, is_some, Some, None, vec_items, Option, nat_le, slice_index_or, slice_set}
+use Rattle.std.specs.Prelude.{◌≡◌, ℕ, Bool, true, false, cond, ◌||◌, List, [], ◌∷◌, ◌++◌, map, length, replicate, is_some, Some, None, vec_items, Option, Result, MatchResult, nat_le, slice_index_or, slice_set}
 use Rattle.std.specs.Option.{option_or}
 use Rattle.label.specs.Refusals.{refuses_more}
 use Rattle.label.specs.Texts.{name_text, text}
@@ -57,7 +57,7 @@ empty = record {
 
 -- what the domain of number d holds; beyond the table nothing
 abbrev pub holding_of : Model → ℕ → Holding
-holding_of m d = slice_index_or m.holdings d (record { rights = []; autos = []; execs = [] })
+holding_of m d = slice_index_or m.holdings d (record { rights = []; passages = [] })
 
 -- what each call adds
 
@@ -167,6 +167,10 @@ no_type m t = nat_le (length m.types) t
 
 abbrev pub unless : Bool → Option Refusal
 unless undeclared = cond undeclared (Some Undeclared) None
+
+-- what a call answers that only wants something to be declared
+abbrev pub Wants : Bool → Result (Unit {0}) Refusal → Type 0
+Wants undeclared r = MatchResult r (λ _. undeclared ≡ false) (λ e. (undeclared ≡ true) × (e ≡ Undeclared))
 
 abbrev pub refuses_type : Model → Name → Option Refusal
 refuses_type m n = refuses_more (is_some (place_of (map name_text m.types) (name_text n))) (length m.types) 64

@@ -2,7 +2,7 @@
 ghost use Rattle.std.specs.Prelude.{◌≡◌, IfOk};
 ghost use Rattle.label.specs.Refusals.{Does, Takes};
 ghost use Rattle.tables.specs.Holdings.{with_rights, with_passage};
-ghost use Rattle.tables.specs.Model.{model, empty, holding_of, no_domain, no_type, with_type, with_domain, with_default, with_rule, with_object, with_entry, with_holding, with_apart, refuses_type, refuses_domain, refuses_default, refuses_rule, refuses_object, refuses_entry, refuses_rights, refuses_passage, refuses_apart};
+ghost use Rattle.tables.specs.Model.{model, empty, holding_of, no_domain, no_type, Wants, with_type, with_domain, with_default, with_rule, with_object, with_entry, with_holding, with_apart, refuses_type, refuses_domain, refuses_default, refuses_rule, refuses_object, refuses_entry, refuses_rights, refuses_passage, refuses_apart};
 
 use crate::entry::{Entries, Entry};
 use crate::holding::{Holding, Passage};
@@ -16,6 +16,16 @@ use lists::distinct::Distinct;
 use rules::rule::Rule;
 use rules::table::Rules;
 use std::alloc::{AllocError, Global};
+
+// Refuses what is not declared.
+fn declared(undeclared: bool) -> Result<(), Refusal>
+    ensures { Wants undeclared result }
+{
+    if undeclared {
+        return Err(Refusal::Undeclared);
+    }
+    Ok(())
+}
 
 impl Tables {
     // Tables with nothing in them.
@@ -34,7 +44,7 @@ impl Tables {
         }
     }
 
-    // A copy of the tables, in memory of its own.
+    // A copy of the tables, in memory of its own. The caller names the memory, which `clone` has no way to take.
     pub fn copy(&self, heap: Global) -> Result<Tables, AllocError>
         ensures { IfOk result (λ c. model c ≡ model self.now) }
     {
@@ -85,9 +95,7 @@ impl Tables {
         if self.first.is_some() {
             return Err(Refusal::Repeated);
         }
-        if self.no_domain(dom) {
-            return Err(Refusal::Undeclared);
-        }
+        declared(self.no_domain(dom))?;
         self.first = Some(dom);
         Ok(())
     }
@@ -96,11 +104,9 @@ impl Tables {
     pub fn add_rule(&mut self, rule: Rule) -> Result<(), Refusal>
         ensures { Takes (refuses_rule (model self.old) rule) (model self.old) (with_rule (model self.old) rule) result (model self.new) }
     {
-        if let Some(refusal) = self.rules.refuses(rule) {
-            return Err(refusal);
-        }
-        if self.no_type(rule.typ) {
-            return Err(Refusal::Undeclared);
+        // What the rules refuse is told before an undeclared type.
+        if self.rules.refuses(rule).is_none() {
+            declared(self.no_type(rule.typ))?;
         }
         self.rules.add(rule)
     }
@@ -116,9 +122,7 @@ impl Tables {
     pub fn add_entry(&mut self, entry: Entry) -> Result<(), Refusal>
         ensures { Takes (refuses_entry (model self.old) entry) (model self.old) (with_entry (model self.old) entry) result (model self.new) }
     {
-        if self.no_domain(entry.dom) {
-            return Err(Refusal::Undeclared);
-        }
+        declared(self.no_domain(entry.dom))?;
         self.entries.add(entry)
     }
 
@@ -126,13 +130,9 @@ impl Tables {
     pub fn add_rights(&mut self, dom: Dom, typ: Typ, rights: Rights) -> Result<(), Refusal>
         ensures { Does (refuses_rights (model self.old) dom.0 typ.0) (model self.old) (with_holding (model self.old) dom.0 (with_rights (holding_of (model self.old) dom.0) typ.0 rights)) result (model self.new) }
     {
-        if self.no_domain(dom) || self.no_type(typ) {
-            return Err(Refusal::Undeclared);
-        }
-        let d = dom.0 as usize;
-        let mut holding = self.holdings[d];
-        holding.add_rights(typ, rights);
-        self.holdings[d] = holding;
+        declared(self.no_domain(dom))?;
+        declared(self.no_type(typ))?;
+        self.holdings[dom.0 as usize].add_rights(typ, rights);
         Ok(())
     }
 
@@ -140,13 +140,9 @@ impl Tables {
     pub fn add_passage(&mut self, dom: Dom, how: Passage, to: Dom) -> Result<(), Refusal>
         ensures { Does (refuses_passage (model self.old) dom.0 to.0) (model self.old) (with_holding (model self.old) dom.0 (with_passage (holding_of (model self.old) dom.0) how to.0)) result (model self.new) }
     {
-        if self.no_domain(dom) || self.no_domain(to) {
-            return Err(Refusal::Undeclared);
-        }
-        let d = dom.0 as usize;
-        let mut holding = self.holdings[d];
-        holding.add_passage(how, to);
-        self.holdings[d] = holding;
+        declared(self.no_domain(dom))?;
+        declared(self.no_domain(to))?;
+        self.holdings[dom.0 as usize].add_passage(how, to);
         Ok(())
     }
 
@@ -157,12 +153,9 @@ impl Tables {
         if self.aparts.len() >= 128 {
             return Err(Refusal::Full);
         }
-        if self.no_type(apart.from) || self.no_type(apart.to) {
-            return Err(Refusal::Undeclared);
-        }
-        match self.aparts.push(apart) {
-            Ok(()) => Ok(()),
-            Err(_) => Err(Refusal::Memory),
-        }
+        declared(self.no_type(apart.from))?;
+        declared(self.no_type(apart.to))?;
+        self.aparts.push(apart)?;
+        Ok(())
     }
 }

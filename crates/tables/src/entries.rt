@@ -5,8 +5,7 @@ ghost use Rattle.tables.specs.Entries.{is_for, enters, count_of, Entered};
 
 use crate::entry::{Entries, Entry};
 use label::numbers::Dom;
-use label::refusal::Refusal;
-use rules::bytes::are_same;
+use label::refusal::{Refusal, refuses_more};
 use std::alloc::{AllocError, Global};
 
 impl Entry {
@@ -14,11 +13,12 @@ impl Entry {
     fn is_for(&self, dom: Dom, path: &[u8]) -> bool
         ensures { result ≡ is_for self.now dom.0 path.now }
     {
-        self.dom.0 == dom.0 && self.path.as_bytes() == path
+        self.dom == dom && self.path.as_bytes() == path
     }
 }
 
 impl Entries {
+    #[tactic(auto, unfolding(crate::specs::Entries::count_of))]
     pub(crate) fn new(heap: Global) -> Entries
         ensures { result.list.items ≡ [] }
     {
@@ -38,22 +38,17 @@ impl Entries {
     pub fn enters(&self, dom: Dom, path: &[u8]) -> bool
         ensures { result ≡ enters self.now.list.items dom.0 path.now }
     {
-        for entry in self.list.iter() {
-            if entry.is_for(dom, path) {
-                return true;
-            }
-        }
-        false
+        self.list.iter().any(|entry| entry.is_for(dom, path))
     }
 
-    // The domains that have this entry path, by number.
+    // The domains that have this entry path, by number. One pass marks them all, so that each path is compared once.
     pub fn entered_by(&self, path: &[u8]) -> [bool; 32]
         ensures { Entered self.now.list.items path.now result }
     {
         let mut entered = [false; 32];
         for entry in self.list.iter() {
             let e = entry.dom.0 as usize;
-            if e < 32 && are_same(entry.path.as_bytes(), path) {
+            if e < 32 && entry.path.as_bytes() == path {
                 entered[e] = true;
             }
         }
@@ -61,35 +56,25 @@ impl Entries {
     }
 
     // How many entry paths the domain has.
+    #[tactic(auto, unfolding(crate::specs::Entries::count_of))]
     fn count(&self, dom: Dom) -> usize
         ensures { result ≡ count_of self.now.list.items dom.0 }
     {
-        let mut n = 0usize;
-        for entry in self.list.iter() {
-            if entry.dom.0 == dom.0 {
-                n += 1;
-            }
-        }
-        n
+        self.list.iter().filter(|entry| entry.dom == dom).count()
     }
 
     // Adds an entry path, unless the domain has it, or has 8.
     pub(crate) fn add(&mut self, entry: Entry) -> Result<(), Refusal>
         ensures { Takes (refuses_more (enters self.old.list.items entry.dom.0 (text entry.path)) (count_of self.old.list.items entry.dom.0) 8) self.old.list.items (self.old.list.items ++ entry ∷ []) result self.new.list.items }
     {
-        if self.enters(entry.dom, entry.path.as_bytes()) {
-            return Err(Refusal::Repeated);
-        }
-        if self.count(entry.dom) >= 8 {
-            return Err(Refusal::Full);
-        }
-        match self.list.push(entry) {
-            Ok(()) => Ok(()),
-            Err(_) => Err(Refusal::Memory),
+        let there = self.enters(entry.dom, entry.path.as_bytes());
+        match refuses_more(there, self.count(entry.dom), 8) {
+            Some(refusal) => Err(refusal),
+            None => Ok(self.list.push(entry)?),
         }
     }
 
-    // A copy of the entry paths, in memory of its own.
+    // A copy of the entry paths, in memory of its own. The caller names the memory, which `clone` has no way to take.
     pub(crate) fn copy(&self, heap: Global) -> Result<Entries, AllocError>
         ensures { IfOk result (λ c. c.list.items ≡ self.now.list.items) }
     {

@@ -8,9 +8,16 @@ pub enum Passage {
     Exec,
 }
 
+// The ways in which a passage to one domain is listed: none, one or both.
+#[derive(Clone, Copy, Default)]
+pub struct Ways {
+    pub(crate) auto: bool,
+    pub(crate) exec: bool,
+}
+
+// Its arrays are of fixed size, so that asking and granting allocate nothing.
 #[derive(Clone, Copy)]
 pub struct Holding {
     pub(crate) rights: [Rights; 64],
-    pub(crate) autos: [bool; 32],
-    pub(crate) execs: [bool; 32],
+    pub(crate) passages: [Ways; 32],
 }

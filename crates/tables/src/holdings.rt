@@ -1,9 +1,29 @@
 ghost use Rattle.std.specs.Prelude.{◌≡◌, ◌<◌};
-ghost use Rattle.tables.specs.Holdings.{nothing, rights_on, listed, with_rights, with_passage};
+ghost use Rattle.tables.specs.Holdings.{has_way, with_way, nothing, rights_on, listed, with_rights, with_passage};
 
-use crate::holding::{Holding, Passage};
+use crate::holding::{Holding, Passage, Ways};
 use label::numbers::{Dom, Typ};
 use label::rights::Rights;
+
+impl Ways {
+    fn has(self, how: Passage) -> bool
+        ensures { result ≡ has_way self how }
+    {
+        match how {
+            Passage::Auto => self.auto,
+            Passage::Exec => self.exec,
+        }
+    }
+
+    fn with(self, how: Passage) -> Ways
+        ensures { result ≡ with_way self how }
+    {
+        match how {
+            Passage::Auto => Ways { auto: true, ..self },
+            Passage::Exec => Ways { exec: true, ..self },
+        }
+    }
+}
 
 impl Holding {
     pub(crate) fn nothing() -> Holding
@@ -11,8 +31,7 @@ impl Holding {
     {
         Holding {
             rights: [Rights::none(); 64],
-            autos: [false; 32],
-            execs: [false; 32],
+            passages: [Ways::default(); 32],
         }
     }
 
@@ -20,24 +39,19 @@ impl Holding {
     pub fn rights_on(&self, typ: Typ) -> Rights
         ensures { result ≡ rights_on self.now typ.0 }
     {
-        match self.rights.get(typ.0 as usize) {
-            Some(rights) => *rights,
-            None => Rights::none(),
-        }
+        self.rights
+            .get(typ.0 as usize)
+            .copied()
+            .unwrap_or(Rights::none())
     }
 
     // Whether a passage to the domain is listed: never to what is no domain's number.
     pub fn lists(&self, how: Passage, dom: Dom) -> bool
         ensures { result ≡ listed self.now how dom.0 }
     {
-        let e = dom.0 as usize;
-        if e >= 32 {
-            return false;
-        }
-        match how {
-            Passage::Auto => self.autos[e],
-            Passage::Exec => self.execs[e],
-        }
+        self.passages
+            .get(dom.0 as usize)
+            .is_some_and(|ways| ways.has(how))
     }
 
     pub(crate) fn add_rights(&mut self, typ: Typ, rights: Rights)
@@ -53,9 +67,6 @@ impl Holding {
         ensures { self.new ≡ with_passage self.old how dom.0 }
     {
         let e = dom.0 as usize;
-        match how {
-            Passage::Auto => self.autos[e] = true,
-            Passage::Exec => self.execs[e] = true,
-        }
+        self.passages[e] = self.passages[e].with(how);
     }
 }

@@ -83,49 +83,38 @@ impl Tables {
     pub fn rights(&self, dom: Dom, typ: Typ) -> Rights
         ensures { result ≡ rights_on (holding_of (model self.now) dom.0) typ.0 }
     {
-        match self.holdings.get(dom.0 as usize) {
-            Some(holding) => holding.rights_on(typ),
-            None => Rights::none(),
-        }
+        self.holdings
+            .get(dom.0 as usize)
+            .map_or(Rights::none(), |holding| holding.rights_on(typ))
     }
 
     // Whether the domain lists a passage to the other.
     pub fn lists(&self, dom: Dom, how: Passage, to: Dom) -> bool
         ensures { result ≡ listed (holding_of (model self.now) dom.0) how to.0 }
     {
-        match self.holdings.get(dom.0 as usize) {
-            Some(holding) => holding.lists(how, to),
-            None => false,
-        }
+        self.holdings
+            .get(dom.0 as usize)
+            .is_some_and(|holding| holding.lists(how, to))
     }
 
     // The type with this name.
     pub fn type_named(&self, name: &[u8]) -> Option<Typ>
         ensures { option_map (λ t. t.0) result ≡ place_of (map name_text (model self.now).types) name.now }
     {
-        match self.types.find(name) {
-            Some(i) => Some(Typ(i as u8)),
-            None => None,
-        }
+        self.types.find(name).map(|i| Typ(i as u8))
     }
 
     // The domain with this name.
     pub fn domain_named(&self, name: &[u8]) -> Option<Dom>
         ensures { option_map (λ d. d.0) result ≡ place_of (map name_text (model self.now).domains) name.now }
     {
-        match self.domains.find(name) {
-            Some(i) => Some(Dom(i as u8)),
-            None => None,
-        }
+        self.domains.find(name).map(|i| Dom(i as u8))
     }
 
     // The object with this path.
     pub fn object_at(&self, path: &[u8]) -> Option<Obj>
         ensures { option_map (λ o. o.0) result ≡ place_of (map path_text (model self.now).objects) path.now }
     {
-        match self.objects.find(path) {
-            Some(i) => Some(Obj(i as u8)),
-            None => None,
-        }
+        self.objects.find(path).map(|i| Obj(i as u8))
     }
 }

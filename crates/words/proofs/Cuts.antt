@@ -1,9 +1,7 @@
 -- Where the first arrow of a word stands, and what is split there.
-use Rattle.std.proofs.Common.{◌≡◌, ℕ, zero, suc, ◌+◌, ◌-◌, ◌<◌, ◌≤◌, Bool, true, false, cond, List, [], ◌∷◌, ◌++◌, length, take, drop, Some, None, codes, Decides, Option, unwrap_or, sym, refl, ap, ◌∙◌, ⊎_elim, arith, MatchOption}
+use Rattle.std.proofs.Common.{get_or, ◌≡◌, ℕ, zero, suc, ◌+◌, ◌<◌, Bool, true, false, cond, List, [], ◌∷◌, ◌++◌, length, take, drop, Some, None, codes, Option, sym, refl, ap, ◌∙◌, arith, MatchOption}
 use Rattle.std.proofs.lemmas.Slice.Eq.{bytes_eq-Decides}
-use Rattle.std.proofs.lemmas.List.{at_drop_more, at_drop_all, length-take, length-drop, drop-drop, take_at, drop_at, take-append-drop, take_rest}
-use Rattle.std.proofs.lemmas.Bool.{cond-true, cond-false, both_ways, cases_order}
-use Rattle.std.proofs.lemmas.Bool.Decides.{same_from_decides}
+use Rattle.std.proofs.lemmas.List.{length-take, length-drop, drop-drop, take_at, drop_at, take-append-drop}
 use Rattle.std.specs.Option.{option_map}
 use Rattle.words.specs.Arrows.{arrow, arrow_from, first_arrow, split_arrow, ArrowAt, SplitAtTheFirst}
 
@@ -19,12 +17,11 @@ abbrev Finds : ℕ → List ℕ → Option ℕ → Type 0
 Finds i w o = MatchOption o (NoArrow w) (λ j. (k : ℕ) × (j ≡ i + k) × First w k)
 
 nothing_in_nothing : NoArrow []
-nothing_in_nothing zero e = let z : ◌≡◌ {A = ℕ} 0 1 = cc in omega arith
-nothing_in_nothing (suc m) e = let z : ◌≡◌ {A = ℕ} 0 1 = cc in omega arith
+nothing_in_nothing m e = grind arith
 
 module _ (b : ℕ) (bs : List ℕ) (other : arrow (b ∷ bs) ≡ false) where
   not_in_front : ArrowAt (b ∷ bs) 0 → ⊥
-  not_in_front e = both_ways _ other ((bytes_eq-Decides _ _).1 e)
+  not_in_front e = grind (arith, bytes_eq-Decides (take 2 (b ∷ bs)) (codes "->"))
 
   none_behind : NoArrow bs → NoArrow (b ∷ bs)
   none_behind h zero e = not_in_front e
@@ -48,23 +45,24 @@ finds i [] = nothing_in_nothing
 finds i (b ∷ bs) = found_behind i b bs (arrow (b ∷ bs)) refl (arrow_from (i + 1) bs) (finds (i + 1) bs)
 
 one_first : (w : List ℕ) (j k : ℕ) → First w j → First w k → j ≡ k
-one_first w j k f g =
-    ⊎_elim (λ e. e) (λ h. ⊎_elim (λ l. absurd (g.none_before j l f.here)) (λ l. absurd (f.none_before k l g.here)) h) (cases_order j k)
+one_first w j k f g = grind (arith, f.none_before j, g.none_before j, f.none_before k, g.none_before k, f.here, g.here)
 
 first_is : (w : List ℕ) (k : ℕ) → First w k → first_arrow w ≡ Some k
 first_is w k f = at (first_arrow w) (finds 0 w)
   where
     at : (o : Option ℕ) → Finds 0 w o → o ≡ Some k
-    at None nowhere = absurd (nowhere k f.here)
-    at (Some j) h = ap Some (let e : j ≡ h.0 = omega (arith, h.1) in e ∙ one_first w h.0 k h.2 f)
+    at None nowhere = grind (arith, f.here)
+    at (Some j) h = grind (arith, h.1, one_first w h.0 k h.2 f)
 
-pub arrow_fits : (w : List ℕ) (k : ℕ) → ArrowAt w k → k + 1 < length w
+nowhere : (w : List ℕ) → NoArrow w → (o : Option ℕ) → Finds 0 w o → o ≡ None
+nowhere w none None h = refl
+nowhere w none (Some j) h = absurd (none h.0 h.2.here)
+
+arrow_fits : (w : List ℕ) (k : ℕ) → ArrowAt w k → k + 1 < length w
 arrow_fits w k e = omega (arith, simp (length-take, length-drop) at (ap length e))
 
 parts_join : (w : List ℕ) (k : ℕ) → ArrowAt w k → w ≡ take k w ++ (codes "->" ++ drop (k + 2) w)
-parts_join w k e =
-    sym (take-append-drop k w)
-    ∙ ap (λ x. take k w ++ x) (sym (take-append-drop 2 (drop k w)) ∙ ap (λ x. x ++ drop 2 (drop k w)) e ∙ ap (λ x. codes "->" ++ x) (drop-drop 2 k w))
+parts_join w k e = grind (arith, take-append-drop k w, take-append-drop 2 (drop k w), drop-drop 2 k w)
 
 abbrev parts : List ℕ → ℕ → List ℕ × List ℕ
 parts w i = (take i w, drop (i + 2) w)
@@ -78,16 +76,11 @@ split_at_the_first =
     }
   where
     split : (w before after : List ℕ) (o : Option ℕ) → Finds 0 w o → option_map (parts w) o ≡ Some (before, after) → (w ≡ before ++ (codes "->" ++ after)) × ((i : ℕ) → i < length before → ArrowAt w i → ⊥)
-    split w before after None h e = absurd (let z : ◌≡◌ {A = ℕ} 0 1 = cc in omega arith)
+    split w before after None h e = absurd (grind arith)
     split w before after (Some j) h e =
-        let k = h.0 in
-        let same : j ≡ k = omega (arith, h.1) in
-        let p : take j w ≡ before = ap (λ o. (unwrap_or {T = List ℕ × List ℕ} o ([], [])).0) e in
-        let q : drop (j + 2) w ≡ after = ap (λ o. (unwrap_or {T = List ℕ × List ℕ} o ([], [])).1) e in (
-          parts_join w j (ap (λ n. take 2 (drop n w)) same ∙ h.2.here)
-              ∙ ap (λ x. x ++ (codes "->" ++ drop (j + 2) w)) p
-              ∙ ap (λ y. before ++ (codes "->" ++ y)) q,
-          λ i l. h.2.none_before i (omega (arith, ap length p, length-take j w)),
+        let same : j ≡ h.0 = omega (arith, h.1) in (
+          grind (arith, parts_join w h.0 h.2.here),
+          λ i l. h.2.none_before i (grind (arith, length-take j w)),
         )
 
     joined : (w before after : List ℕ) → w ≡ before ++ (codes "->" ++ after) → ((i : ℕ) → i < length before → ArrowAt w i → ⊥) → option_map (parts w) (first_arrow w) ≡ Some (before, after)
@@ -100,46 +93,28 @@ split_at_the_first =
 
     unsplit : (w : List ℕ) (o : Option ℕ) → Finds 0 w o → option_map (parts w) o ≡ None → NoArrow w
     unsplit w None h e = h
-    unsplit w (Some j) h e = absurd (let z : ◌≡◌ {A = ℕ} 0 1 = cc in omega arith)
+    unsplit w (Some j) h e = absurd (grind arith)
 
-    nowhere : (w : List ℕ) → NoArrow w → (o : Option ℕ) → Finds 0 w o → o ≡ None
-    nowhere w none None h = refl
-    nowhere w none (Some j) h = absurd (none h.0 h.2.here)
+-- the two bytes of an arrow, read one by one
+abbrev ArrowRead : List ℕ → ℕ → Type 0
+ArrowRead w i = (get_or w i 0 ≡ 45) × (get_or w (i + 1) 0 ≡ 62)
 
--- one step of the search, with r what the test of the bytes from i on answers
-module _ (w : List ℕ) (i : ℕ) (r : Bool) (tests : Decides r (codes "->" ≡ take 2 (take (length w - i) (drop i w)))) where
-  arrow_here : r ≡ true → ArrowAt w i
-  arrow_here t = sym (tests.0 t ∙ ap (take 2) (take_rest w i))
+arrow_read : (w : List ℕ) (i : ℕ) → ArrowRead w i → ArrowAt w i
+arrow_read [] i a = grind arith
+arrow_read (b ∷ []) zero a = grind arith
+arrow_read (b ∷ c ∷ bs) zero a = grind arith
+arrow_read (b ∷ bs) (suc i) a = grind (arith, arrow_read bs i)
 
-  tested : r ≡ arrow (drop i w)
-  tested = same_from_decides r _ (arrow_here, λ e. tests.1 (sym (ap (take 2) (take_rest w i) ∙ e))) (bytes_eq-Decides _ _)
+read_arrow : (w : List ℕ) (i : ℕ) → ArrowAt w i → ArrowRead w i
+read_arrow [] i e = absurd (nothing_in_nothing i e)
+read_arrow (b ∷ []) zero e = grind arith
+read_arrow (b ∷ c ∷ bs) zero e = grind arith
+read_arrow (b ∷ bs) (suc i) e = grind (arith, read_arrow bs i e)
 
-  module _ (l : i < length w) (inv : arrow_from i (drop i w) ≡ first_arrow w) where
-    step : first_arrow w ≡ cond (arrow (drop i w)) (Some i) (arrow_from (i + 1) (drop (i + 1) w))
-    unfolding arrow_from
-    step = sym inv ∙ at_drop_more (arrow_from i) w i 0 l ∙ sym (at_drop_more (λ bs. cond (arrow bs) (Some i) (arrow_from (i + 1) (drop (i + 1) w))) w i 0 l)
+-- what a search by pairs of neighbours says
+abbrev pub FindsPair : List ℕ → Option ℕ → Type 0
+FindsPair w o = MatchOption o ((i : ℕ) → i + 1 < length w → ArrowRead w i → ⊥) (λ k. ArrowRead w k × ((i : ℕ) → i < k → ArrowRead w i → ⊥))
 
-    pub found_here : r ≡ true → Some i ≡ first_arrow w
-    found_here t = sym (step ∙ cond-true _ _ _ (sym tested ∙ t))
-
-    pub not_here : r ≡ false → arrow_from (i + 1) (drop (i + 1) w) ≡ first_arrow w
-    not_here f = sym (step ∙ cond-false _ _ _ (sym tested ∙ f))
-
-  pub found_fits : r ≡ true → i + 1 < length w
-  found_fits t = arrow_fits w i (arrow_here t)
-
-pub found_nowhere : (w : List ℕ) (i : ℕ) → length w ≤ i → arrow_from i (drop i w) ≡ first_arrow w → None ≡ first_arrow w
-unfolding arrow_from
-found_nowhere w i l inv = sym (at_drop_all (arrow_from i) w i l) ∙ inv
-
-pub split_here : (w : List ℕ) (i : ℕ) → Some i ≡ first_arrow w → Some (take (i - 0) w, take (length w - (i + 2)) (drop (i + 2) w)) ≡ split_arrow w
-unfolding split_arrow
-split_here w i e =
-    let whole : i - 0 ≡ i = omega arith in
-    ap (λ n. Some (take n w, take (length w - (i + 2)) (drop (i + 2) w))) whole
-    ∙ ap (λ y. Some (take i w, y)) (take_rest w (i + 2))
-    ∙ ap (option_map (parts w)) e
-
-pub split_nowhere : (w : List ℕ) → None ≡ first_arrow w → None ≡ split_arrow w
-unfolding split_arrow
-split_nowhere w e = ap (option_map (parts w)) e
+pub pair_found : (w : List ℕ) (o : Option ℕ) → FindsPair w o → o ≡ first_arrow w
+pair_found w None h = sym (nowhere w (λ i e. h i (arrow_fits w i e) (read_arrow w i e)) (first_arrow w) (finds 0 w))
+pair_found w (Some k) h = sym (first_is w k (record { here = arrow_read w k h.0; none_before = λ i l e. h.1 i l (read_arrow w i e) }))

@@ -1,8 +1,10 @@
 -- Letters that are added to a set one by one, and the set that they make.
-use Rattle.std.proofs.Common.{◌≡◌, ℕ, ◌+◌, ◌*◌, ◌/◌, ◌%◌, ◌<◌, ◌≤◌, Bool, true, false, cond, not, ◌||◌, eqb, ◌⊎◌, List, [], ◌∷◌, length, get_or, drop, IfSome, Some, None, codes, Decides, Option, sym, refl, ap, ◌∙◌, subst, inl, inr, ⊎_elim, arith, MatchOption}
-use lib.Bits.{bit_and, and_high, and_mask, or_lt}
-use Rattle.std.proofs.lemmas.List.{at_drop_more, at_drop_all}
-use Rattle.std.proofs.lemmas.Bool.{cond_both, both_ways, eq-eqb, ne_eqb, eqb-true, eqb-false, or_cases, or_left, or_right, cases_Bool, cases_eq, not-true, not-false}
+use Rattle.std.proofs.Common.{◌≡◌, ℕ, ◌^◌, zero, suc, ◌<◌, Bool, true, false, cond, not, ◌||◌, eqb, ◌⊎◌, List, [], ◌∷◌, IfSome, Some, None, codes, Decides, Option, sym, refl, ap, ◌∙◌, subst, inl, inr, ⊎_elim, arith, MatchOption}
+use lib.Bits.{bit_and, or_lt}
+use Rattle.std.specs.Int.{bit_at}
+use Rattle.std.proofs.lemmas.Nat.{pow_pos}
+use Rattle.std.proofs.lemmas.Nat.Bits.{and_pow, bit_at-lt, same_from_bits_below}
+use Rattle.std.proofs.lemmas.Bool.{cond_both, both_ways, ne_eqb, eqb-true, or_cases, cases_Bool}
 use Rattle.std.proofs.lemmas.Bool.Decides.{same_from_decides}
 use Rattle.std.specs.Option.{option_map, option_flatten}
 use Rattle.std.specs.List.{AllByRecursion}
@@ -26,13 +28,7 @@ each_letter P r w a x c d other l =
     (λ nd. other l (none_of nr nw na nx nc nd)))))))
   where
     none_of : eqb l 114 ≡ false → eqb l 119 ≡ false → eqb l 97 ≡ false → eqb l 120 ≡ false → eqb l 99 ≡ false → eqb l 100 ≡ false → Letter l → ⊥
-    none_of nr nw na nx nc nd (inl e) = eqb-false l 114 nr (sym e)
-    none_of nr nw na nx nc nd (inr (inl e)) = eqb-false l 119 nw (sym e)
-    none_of nr nw na nx nc nd (inr (inr (inl e))) = eqb-false l 97 na (sym e)
-    none_of nr nw na nx nc nd (inr (inr (inr (inl e)))) = eqb-false l 120 nx (sym e)
-    none_of nr nw na nx nc nd (inr (inr (inr (inr (inl e))))) = eqb-false l 99 nc (sym e)
-    none_of nr nw na nx nc nd (inr (inr (inr (inr (inr (inl e)))))) = eqb-false l 100 nd (sym e)
-    none_of nr nw na nx nc nd (inr (inr (inr (inr (inr (inr e)))))) = e
+    none_of nr nw na nx nc nd h = grind arith
 
 record BitOf (l n : ℕ) : Type 0 where
   letter : Letter l
@@ -91,8 +87,7 @@ grown_more s u t b bs m g =
     }
   where
     held : (l : ℕ) → (has s l ≡ true) ⊎ (b ≡ l) → has u l ≡ true
-    held l (inl h) = m.has_is l ∙ or_left (has s l) (eqb b l) h
-    held l (inr e) = m.has_is l ∙ or_right (has s l) (eqb b l) (eq-eqb b l e)
+    held l h = grind (arith, m.has_is l)
 
     unheld : (l : ℕ) → has u l ≡ false → has s l ≡ false
     unheld l f = ⊎_elim (λ t'. absurd (both_ways _ f (held l (inl t')))) (λ e. e) (cases_Bool (has s l))
@@ -101,9 +96,7 @@ grown_more s u t b bs m g =
     back l h = ⊎_elim (λ e. inl e) (λ e. inr (inl (eqb-true b l e))) (or_cases (has s l) (eqb b l) (sym (m.has_is l) ∙ h))
 
     forth : (l : ℕ) → (has s l ≡ true) ⊎ Among (b ∷ bs) l → (has u l ≡ true) ⊎ Among bs l
-    forth l (inl h) = inl (held l (inl h))
-    forth l (inr (inl e)) = inl (held l (inr e))
-    forth l (inr (inr a)) = inr a
+    forth l h = grind (arith, m.has_is l)
 
 grows : (s : Rights) (bs : List ℕ) → IfSome (with_letters s bs) (Grown s bs)
 unfolding with_letters
@@ -128,72 +121,39 @@ makes s (b ∷ bs) letters once new = at (with_letter s b) (with_letter_is s b) 
     at None h later = absurd (⊎_elim (λ t. both_ways _ (new b (inl refl)) t) (λ n. n letters.0) h)
     at (Some u) h later = later u (λ l a. h.has_is l ∙ ap (λ x. x || eqb b l) (new l (inr a)) ∙ ne_eqb b l (λ e. once.0 (subst (Among bs) (sym e) a)))
 
--- a number that is zero where another is
-alike : (a b : ℕ) → not (eqb a 0) ≡ not (eqb b 0) → ((a ≡ 0) × (b ≡ 0)) ⊎ ((0 < a) × (0 < b))
-alike a b e = ⊎_elim (λ h. inl (h, eqb-true b 0 (not-false _ (sym e ∙ ap not (eq-eqb a 0 h))))) (λ h. inr (omega (arith, h), omega (arith, eqb-false b 0 (not-true _ (sym e ∙ ap not (ne_eqb a 0 h)))))) (cases_eq a 0)
+-- a letter's bit shows that digit of the number
+shown_digit : (n k : ℕ) → eqb (bit_and n (2 ^ k)) 0 ≡ eqb (bit_at n k) 0
+shown_digit n k = grind (arith, and_pow n k, bit_at-lt n k, pow_pos k)
 
-module _ (s t : ℕ) (ls : s < 64) (lt : t < 64) (e : (m : ℕ) → meets s (bit m) ≡ meets t (bit m)) where
-  digit_0 : s % 2 ≡ t % 2
-  digit_0 =
-      let p : bit_and s 1 ≡ s % 2 = and_mask s 1 in
-      let q : bit_and t 1 ≡ t % 2 = and_mask t 1 in
-      ⊎_elim (λ h. omega (arith, h.0, h.1)) (λ h. omega (arith, h.0, h.1)) (alike (bit_and s 1) (bit_and t 1) (e 114))
+same_digit : (s t k : ℕ) → not (eqb (bit_and s (2 ^ k)) 0) ≡ not (eqb (bit_and t (2 ^ k)) 0) → bit_at s k ≡ bit_at t k
+same_digit s t k e = grind (arith, shown_digit s k, shown_digit t k, bit_at-lt s k, bit_at-lt t k)
 
-  digit_1 : s / 2 % 2 ≡ t / 2 % 2
-  digit_1 =
-      let p : bit_and s 2 ≡ s / 2 % 2 * 2 = and_high s 1 1 in
-      let q : bit_and t 2 ≡ t / 2 % 2 * 2 = and_high t 1 1 in
-      ⊎_elim (λ h. omega (arith, h.0, h.1)) (λ h. omega (arith, h.0, h.1)) (alike (bit_and s 2) (bit_and t 2) (e 119))
-
-  digit_2 : s / 4 % 2 ≡ t / 4 % 2
-  digit_2 =
-      let p : bit_and s 4 ≡ s / 4 % 2 * 4 = and_high s 1 2 in
-      let q : bit_and t 4 ≡ t / 4 % 2 * 4 = and_high t 1 2 in
-      ⊎_elim (λ h. omega (arith, h.0, h.1)) (λ h. omega (arith, h.0, h.1)) (alike (bit_and s 4) (bit_and t 4) (e 97))
-
-  digit_3 : s / 8 % 2 ≡ t / 8 % 2
-  digit_3 =
-      let p : bit_and s 8 ≡ s / 8 % 2 * 8 = and_high s 1 3 in
-      let q : bit_and t 8 ≡ t / 8 % 2 * 8 = and_high t 1 3 in
-      ⊎_elim (λ h. omega (arith, h.0, h.1)) (λ h. omega (arith, h.0, h.1)) (alike (bit_and s 8) (bit_and t 8) (e 120))
-
-  digit_4 : s / 16 % 2 ≡ t / 16 % 2
-  digit_4 =
-      let p : bit_and s 16 ≡ s / 16 % 2 * 16 = and_high s 1 4 in
-      let q : bit_and t 16 ≡ t / 16 % 2 * 16 = and_high t 1 4 in
-      ⊎_elim (λ h. omega (arith, h.0, h.1)) (λ h. omega (arith, h.0, h.1)) (alike (bit_and s 16) (bit_and t 16) (e 99))
-
-  digit_5 : s / 32 % 2 ≡ t / 32 % 2
-  digit_5 =
-      let p : bit_and s 32 ≡ s / 32 % 2 * 32 = and_high s 1 5 in
-      let q : bit_and t 32 ≡ t / 32 % 2 * 32 = and_high t 1 5 in
-      ⊎_elim (λ h. omega (arith, h.0, h.1)) (λ h. omega (arith, h.0, h.1)) (alike (bit_and s 32) (bit_and t 32) (e 100))
-
-  same_bits : s ≡ t
-  same_bits = omega (arith, digit_0, digit_1, digit_2, digit_3, digit_4, digit_5)
+same_bits : (s t : ℕ) → s < 64 → t < 64 → ((m : ℕ) → meets s (bit m) ≡ meets t (bit m)) → s ≡ t
+same_bits s t ls lt e = same_from_bits_below 6 s t ls lt digit
+  where
+    digit : (i : ℕ) → i < 6 → bit_at s i ≡ bit_at t i
+    digit zero l = same_digit s t 0 (e 114)
+    digit (suc zero) l = same_digit s t 1 (e 119)
+    digit (suc (suc zero)) l = same_digit s t 2 (e 97)
+    digit (suc (suc (suc zero))) l = same_digit s t 3 (e 120)
+    digit (suc (suc (suc (suc zero)))) l = same_digit s t 4 (e 99)
+    digit (suc (suc (suc (suc (suc zero))))) l = same_digit s t 5 (e 100)
+    digit (suc (suc (suc (suc (suc (suc i)))))) l = absurd (omega arith)
 
 same_set : (s t : Rights) → s.bits < 64 → t.bits < 64 → ((m : ℕ) → has s m ≡ has t m) → s ≡ t
 same_set s t ls lt e = let of : ℕ → Rights = λ n. record { bits = n } in ap of (same_bits s.bits t.bits ls lt e)
-
-pub letters_of_nothing : (bs : List ℕ) → true ≡ eqb (length bs) 0 → None ≡ letters_of bs
-unfolding letters_of
-letters_of_nothing [] e = refl
-letters_of_nothing (b ∷ bs) e = absurd (omega (arith, eqb-true (length (b ∷ bs)) 0 (sym e)))
 
 letters_some : (bs : List ℕ) → (bs ≡ [] → ⊥) → letters_of bs ≡ with_letters none bs
 unfolding letters_of
 letters_some [] some = absurd (some refl)
 letters_some (b ∷ bs) some = refl
 
-pub letters_of_some : (bs : List ℕ) → false ≡ eqb (length bs) 0 → with_letters none bs ≡ letters_of bs
-letters_of_some bs e = sym (letters_some bs (λ h. eqb-false (length bs) 0 (sym e) (ap length h)))
-
 letters_are : (bs : List ℕ) (s : Rights) → letters_of bs ≡ Some s → OnceEach bs × SetOf bs s
 unfolding letters_of
-letters_are [] s e = absurd (let z : ◌≡◌ {A = ℕ} 0 1 = cc in omega arith)
+letters_are [] s e = absurd (grind arith)
 letters_are (b ∷ bs) s e =
     let g : Grown none (b ∷ bs) s = subst (λ o. IfSome o (Grown none (b ∷ bs))) e (grows none (b ∷ bs)) in (
-      record { some = λ h. (let z : ◌≡◌ {A = ℕ} 0 1 = cc in omega arith); letters = g.letters; once = g.once },
+      record { some = λ h. (grind arith); letters = g.letters; once = g.once },
       record {
         has_these = λ l. (λ t. ⊎_elim (λ h. absurd (both_ways _ (sets.none_has l) h)) (λ a. a) ((g.has_is l).0 t), λ a. (g.has_is l).1 (inr a));
         no_more = g.small (omega arith);
@@ -215,7 +175,7 @@ pub letters_as_sets : LettersAsSets
 letters_as_sets =
     record {
       taken = λ bs s. (letters_are bs s, λ h. letters_taken bs s h.0 h.1);
-      refused = λ bs. (λ e o. (let m = letters_make bs o in let z : ◌≡◌ {A = ℕ} 0 1 = cc m.1 in omega arith), λ h. nothing bs h (letters_of bs) refl);
+      refused = λ bs. (λ e o. grind (arith, e, (letters_make bs o).1), λ h. nothing bs h (letters_of bs) refl);
       any_order = λ bs cs o p same. (let m = letters_make bs o in
           let g = (letters_are bs m.0 m.1).1 in
           m.1
@@ -225,19 +185,3 @@ letters_as_sets =
     nothing : (bs : List ℕ) → (OnceEach bs → ⊥) → (o : Option Rights) → letters_of bs ≡ o → o ≡ None
     nothing bs h None e = refl
     nothing bs h (Some s) e = absurd (h (letters_are bs s e).0)
-
--- one step of the reading, with o what the next letter makes of the set
-module _ (bs : List ℕ) (i : ℕ) (s : Rights) (o : Option Rights) (l : i < length bs) (inv : with_letters s (drop i bs) ≡ with_letters none bs) (is : o ≡ with_letter s (get_or bs i 0)) where
-  step : with_letters none bs ≡ option_flatten (option_map (λ t. with_letters t (drop (i + 1) bs)) o)
-  unfolding with_letters
-  step = sym inv ∙ at_drop_more (with_letters s) bs i 0 l ∙ ap (λ x. option_flatten (option_map (λ t. with_letters t (drop (i + 1) bs)) x)) (sym is)
-
-  pub letter_taken : (t : Rights) → o ≡ Some t → with_letters t (drop (i + 1) bs) ≡ with_letters none bs
-  letter_taken t e = sym (step ∙ ap (λ x. option_flatten (option_map (λ u. with_letters u (drop (i + 1) bs)) x)) e)
-
-  pub letter_refused : o ≡ None → None ≡ with_letters none bs
-  letter_refused e = sym (step ∙ ap (λ x. option_flatten (option_map (λ u. with_letters u (drop (i + 1) bs)) x)) e)
-
-pub letters_all : (bs : List ℕ) (i : ℕ) (s : Rights) → length bs ≤ i → with_letters s (drop i bs) ≡ with_letters none bs → Some s ≡ with_letters none bs
-unfolding with_letters
-letters_all bs i s l inv = sym (at_drop_all (with_letters s) bs i l) ∙ inv

@@ -1,7 +1,7 @@
 -- The words that begin a statement.
-use Rattle.std.specs.Prelude.{ℕ, List, [], ◌∷◌, codes, Option}
+use Rattle.std.specs.Prelude.{ℕ, List, [], ◌∷◌, codes, Option, refl}
 use Rattle.rules.specs.declared.rule.Flag.TheVariants.{E, U, R}
-use Rattle.words.specs.Spelled.{spelled_so}
+use Rattle.words.specs.Spelled.{spelled_so, EachReadBack}
 use Rattle.words.specs.declared.keyword.Keyword.{Keyword}
 use Rattle.words.specs.declared.keyword.Keyword.TheVariants.{Types, Domains, DefaultDomain, DefaultType, SpecDomain, WidenDomain, Assign, Object, Apart}
 
@@ -24,3 +24,16 @@ keywords = Types ∷ Domains ∷ DefaultDomain ∷ DefaultType E ∷ DefaultType
 -- the keyword that a word is
 unfoldable pub keyword_of : List ℕ → Option Keyword
 keyword_of w = spelled_so keyword_text keywords w
+
+pub keyword_read_back : EachReadBack keyword_text keywords
+keyword_read_back Types = refl
+keyword_read_back Domains = refl
+keyword_read_back DefaultDomain = refl
+keyword_read_back (DefaultType E) = refl
+keyword_read_back (DefaultType U) = refl
+keyword_read_back (DefaultType R) = refl
+keyword_read_back SpecDomain = refl
+keyword_read_back WidenDomain = refl
+keyword_read_back Assign = refl
+keyword_read_back Object = refl
+keyword_read_back Apart = refl

@@ -8,22 +8,15 @@ fn find_arrow(word: &[u8]) -> Option<usize>
     ensures place { result ≡ first_arrow word.now }
     ensures within { IfSome result (λ i. i + 1 < length word.now) }
 {
-    for i in 0..word.len() {
-        if word[i..].starts_with(b"->") {
-            return Some(i);
-        }
-    }
-    None
+    word.array_windows().position(|pair| pair == b"->")
 }
 
 // What stands before the word's first arrow, and what stands after it.
+#[tactic(auto, unfolding(crate::specs::Arrows::split_arrow))]
 pub fn split_arrow(word: &[u8]) -> Option<(&[u8], &[u8])>
     ensures { option_map (λ parts. (parts.0.now, parts.1.now)) result ≡ split_arrow word.now }
 {
-    match find_arrow(word) {
-        Some(i) => Some((&word[0..i], &word[i + 2..])),
-        None => None,
-    }
+    find_arrow(word).map(|i| (&word[..i], &word[i + 2..]))
 }
 
 // A word is split at its first arrow, and not at all where it has none.

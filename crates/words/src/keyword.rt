@@ -1,9 +1,9 @@
 //! The words that begin a statement.
 ghost use Rattle.std.specs.Prelude.{◌≡◌};
-ghost use Rattle.words.specs.Keywords.{keyword_of, keyword_text};
+ghost use Rattle.words.specs.Keywords.{keyword_of, keyword_text, keywords, keyword_read_back};
 ghost use Rattle.words.specs.Spelled.{ReadAsSpelled};
 
-use crate::same::same;
+use crate::spelled::{Spelled, read, words_are_spellings};
 use rules::rule::Flag;
 
 // What a statement does.
@@ -29,40 +29,58 @@ pub enum Keyword {
     Apart,
 }
 
-// The keyword that the word is, if it is one.
-pub fn keyword_of(word: &[u8]) -> Option<Keyword>
-    ensures { result ≡ keyword_of word.now }
-{
-    if same(word, b"types") {
-        Some(Keyword::Types)
-    } else if same(word, b"domains") {
-        Some(Keyword::Domains)
-    } else if same(word, b"default_d") {
-        Some(Keyword::DefaultDomain)
-    } else if same(word, b"default_et") {
-        Some(Keyword::DefaultType(Flag::E))
-    } else if same(word, b"default_ut") {
-        Some(Keyword::DefaultType(Flag::U))
-    } else if same(word, b"default_rt") {
-        Some(Keyword::DefaultType(Flag::R))
-    } else if same(word, b"spec_domain") {
-        Some(Keyword::SpecDomain)
-    } else if same(word, b"widen_domain") {
-        Some(Keyword::WidenDomain)
-    } else if same(word, b"assign") {
-        Some(Keyword::Assign)
-    } else if same(word, b"object") {
-        Some(Keyword::Object)
-    } else if same(word, b"apart") {
-        Some(Keyword::Apart)
-    } else {
-        None
+impl Spelled for Keyword {
+    ghost spelling = { keyword_text };
+
+    ghost every = { keywords };
+
+    ghost own = { keyword_read_back };
+
+    fn text(self) -> &'static str {
+        match self {
+            Keyword::Types => "types",
+            Keyword::Domains => "domains",
+            Keyword::DefaultDomain => "default_d",
+            Keyword::DefaultType(Flag::E) => "default_et",
+            Keyword::DefaultType(Flag::U) => "default_ut",
+            Keyword::DefaultType(Flag::R) => "default_rt",
+            Keyword::SpecDomain => "spec_domain",
+            Keyword::WidenDomain => "widen_domain",
+            Keyword::Assign => "assign",
+            Keyword::Object => "object",
+            Keyword::Apart => "apart",
+        }
+    }
+
+    fn every() -> &'static [Keyword] {
+        &[
+            Keyword::Types,
+            Keyword::Domains,
+            Keyword::DefaultDomain,
+            Keyword::DefaultType(Flag::E),
+            Keyword::DefaultType(Flag::U),
+            Keyword::DefaultType(Flag::R),
+            Keyword::SpecDomain,
+            Keyword::WidenDomain,
+            Keyword::Assign,
+            Keyword::Object,
+            Keyword::Apart,
+        ]
     }
 }
 
+// The keyword that the word is, if it is one.
+#[tactic(auto, unfolding(crate::specs::Keywords::keyword_of))]
+pub fn keyword_of(word: &[u8]) -> Option<Keyword>
+    ensures { result ≡ keyword_of word.now }
+{
+    read(word)
+}
+
 // A word is a keyword exactly where it is spelled as one.
+#[tactic(auto, unfolding(crate::specs::Keywords::keyword_of))]
 pub fn keywords_are_their_spellings() -> bool
     ensures { ReadAsSpelled keyword_text keyword_of }
 {
-    true
+    words_are_spellings::<Keyword>()
 }

@@ -5,16 +5,19 @@ ghost use Rattle.words.specs.Letters.{with_letter, letters_of, LettersAsSets};
 use label::rights::Rights;
 
 // The set with one letter more: none where this is no letter, or one that the set has.
+#[tactic(auto, unfolding(crate::specs::Letters::with_letter))]
 fn with_letter(set: Rights, letter: char) -> Option<Rights>
     ensures { result ≡ with_letter set letter }
 {
-    match Rights::of(letter) {
-        Some(right) if !set.has(letter) => Some(set.union(right)),
-        _ => None,
+    if set.has(letter) {
+        None
+    } else {
+        Rights::of(letter).map(|right| set.union(right))
     }
 }
 
 // The set of the letters that the bytes are: one or more, each once.
+#[tactic(auto, unfolding(crate::specs::Letters::letters_of, crate::specs::Letters::with_letters))]
 pub fn letters_of(bytes: &[u8]) -> Option<Rights>
     ensures { result ≡ letters_of bytes.now }
 {
@@ -22,6 +25,7 @@ pub fn letters_of(bytes: &[u8]) -> Option<Rights>
         return None;
     }
     let mut set = Rights::none();
+    // The first byte that is no letter, or stands twice, ends the loop.
     for b in bytes {
         set = with_letter(set, *b as char)?;
     }

@@ -6,4 +6,4 @@ pub mod flag;
 pub mod keyword;
 pub mod letters;
 pub mod passage;
-mod same;
+pub mod spelled;

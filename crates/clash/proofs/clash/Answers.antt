@@ -1,18 +1,16 @@
-use Rattle.std.proofs.Common.{refl}
-use Rattle.policy.specs.Lowest.{lowest}
+use Rattle.std.proofs.Common.{length, subst, ◌∙◌, rules}
+use Rattle.std.proofs.iter.runs.Sources.{range_runs}
+use Rattle.std.specs.Iterator.Runs.{ItemsCountUp}
 use Rattle.tables.specs.Model.{model}
-use Rattle.clash.proofs.Searches.{clash_here, clash_more, clash_end}
+use Rattle.clash.specs.Clashes.{pair}
+use Rattle.clash.proofs.Searches.{first_found, clash_is}
 use Rattle.clash.proofs.clash.Goals as goal
 
-pub loop-d-init : goal.loop-d-init
-unfolding lowest
-loop-d-init c = refl
-
-pub returns-in-Some : goal.returns-in-Some
-returns-in-Some c = clash_here (model c.args.tables.now) c.loop-d.d _ c.in-Some.targets c.domain_count-d-end.ensures c.loop-d-test.true c.loop-d.invariant c.in-Some.ensures
-
-pub loop-d-preserved : goal.loop-d-preserved
-loop-d-preserved c = clash_more (model c.args.tables.now) c.loop-d.d c.loop-d.invariant c.in_default.ensures
-
 pub returns : goal.returns
-returns c = clash_end (model c.args.tables.now) c.loop-d.d _ c.domain_count-d-end.ensures c.loop-d-test.false c.loop-d.invariant
+returns c =
+    let m = model c.args.tables.now in
+    let ran = c.find_map.ensures.runs in
+    first_found (pair m) ran.0 _ (length m.domains)
+    (subst (λ n. ItemsCountUp ran.0 0 n) c.domain_count.ensures (subst (λ s. ItemsCountUp ran.0 s.start s.end) ran.1 (range_runs ran.0 ran.0.seen)))
+    (λ e y q h. search rules) (λ e y h. search rules) c.find_map.result ran.2
+    ∙ clash_is m

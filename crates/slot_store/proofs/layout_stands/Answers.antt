@@ -1,4 +1,5 @@
-use Rattle.slot_store.proofs.Writes.{contents_are_laid, laid_is_marked, laid_is_read}
+use Rattle.slot_store.specs.LayoutLaws.{contents_are_laid}
+use Rattle.slot_store.proofs.Writes.{laid_is_marked, laid_is_read}
 use Rattle.slot_store.proofs.layout_stands.Goals as goal
 
 pub returns : goal.returns

@@ -9,4 +9,4 @@ use Rattle.flow.proofs.asking.may_read.Goals as goal
 pub returns : goal.returns
 returns c =
     let p = c.args.policy.now.policy in
-    rw (← answer-allowed p reading c.args.d c.args.o (read_on (model_of p) c.args.d c.args.o) (asks.reads p c.args.d c.args.o)) (search rules)
+    rw (← answer-allowed p reading c.args.dom.0 c.args.obj.0 (read_on (model_of p) c.args.dom.0 c.args.obj.0) (asks.reads p c.args.dom.0 c.args.obj.0)) (search rules)

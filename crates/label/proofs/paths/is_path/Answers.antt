@@ -1,9 +1,6 @@
 use Rattle.std.proofs.Common.{rules}
-use Rattle.label.proofs.Parts.{path_root, path_components, path_back}
+use Rattle.label.proofs.Parts.{path_components, path_back}
 use Rattle.label.proofs.paths.is_path.Goals as goal
-
-pub returns-then-is_empty : goal.returns-then-is_empty
-returns-then-is_empty c = (λ _. path_root _ (search rules) (search rules), λ _. c.if-is_empty.true)
 
 pub returns-else-is_empty : goal.returns-else-is_empty
 returns-else-is_empty c = (

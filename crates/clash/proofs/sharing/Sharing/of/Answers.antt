@@ -1,11 +1,9 @@
-use Rattle.std.proofs.Common.{arith, length-set}
-use Rattle.clash.proofs.Marks.{filled}
+use Rattle.std.proofs.Common.{[], rules}
+use Rattle.tables.specs.Model.{model}
+use Rattle.policy.proofs.Filled.{filled}
 use Rattle.clash.specs.Sharing.{Sharers}
 use Rattle.clash.proofs.sharing.Sharing.of.Goals as goal
 
-pub loop-e-preserved : goal.loop-e-preserved
-loop-e-preserved c = (
-  rw length-set c.loop-e.invariant.0,
-  filled (Sharers c.args.entries.now) c.loop-e.table.0 c.loop-e.e c.sharers.result _
-      (omega (arith, c.loop-e.invariant.0, c.loop-e-test.true)) c.loop-e.invariant.1 c.sharers.ensures,
-)
+pub invariant_of-result : goal.invariant_of-result
+invariant_of-result c =
+    record { shared = λ e l. filled 32 (λ k row. Sharers (model c.args.tables.now).entries k row) (λ i y q b h. (search rules, search rules)) _ c.from_fn.ensures.items e [] l }

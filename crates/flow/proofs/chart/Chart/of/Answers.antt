@@ -1,9 +1,8 @@
-use Rattle.std.proofs.Common.{length, sym, refl, ap, ◌∙◌, arith}
+use Rattle.std.proofs.Common.{length, sym, ap, ◌∙◌}
 use Rattle.tables.specs.Model.{model}
 use Rattle.policy.proofs.Asks.{asks}
-use Rattle.machine.specs.Flow.{number}
 use Rattle.flow.proofs.Bounded.{objects_few, domains_few}
-use Rattle.flow.proofs.Explored.{number_below}
+use Rattle.flow.proofs.LinkParts.{linked_is_link}
 use Rattle.flow.proofs.chart.Chart.of.Goals as goal
 
 pub returns : goal.returns
@@ -13,5 +12,8 @@ returns c =
       objects = c.object_count.ensures ∙ ap (λ t. length (model t).objects) (c.tables.ensures ∙ ap (λ q. q.tables) c.policy.ensures) ∙ sym (asks.objects p);
       objects_few = objects_few p;
       domains_few = domains_few p;
-      links = λ x y hx hy. c.loop-u.invariant.1 (number x) (omega (arith, number_below x hx, c.loop-u-test.false)) x hx refl y hy;
+      links = λ x y hx hy.
+          let t = c.of.ensures x y hx hy in
+          let k = linked_is_link (record { policy = c.args.policy; passages = c.of-passages.result; live = c.live_domains-live.result }) c.live_domains-live.ensures c.of-passages.ensures x y hx hy in
+          (λ h. k.0 (t.0 h), λ h. t.1 (k.1 h));
     }

@@ -5,21 +5,13 @@ use Rattle.flow.specs.Sets.{among}
 use Rattle.flow.proofs.Nearest.{no_chain, answered}
 use Rattle.flow.proofs.spread.Spread.chain_to.Goals as goal
 
-pub returns-in-Some : goal.returns-in-Some
-returns-in-Some c =
-    record {
-      small = λ h. absurd (omega arith);
-      answer = λ P From of.
-          answered P From (among c.args.to.now) c.args.self.now of c.in-Some.near c.in-Some.ensures c.args.nodes.now c.trace.new.nodes c.trace.result
-          (omega arith) c.trace.ensures.answer c.trace.ensures.nodes;
-    }
+pub returns-in-Some-clause-answer : goal.returns-in-Some-clause-answer
+returns-in-Some-clause-answer c P From of =
+    answered P From (among c.args.to.now) c.args.self.now of c.in-Some.near c.in-Some.ensures c.args.nodes.now c.trace.new.nodes c.trace.result
+    (omega arith) c.trace.ensures.answer c.trace.ensures.nodes
 
-pub returns-in-None : goal.returns-in-None
-returns-in-None c =
+pub returns-in-None-clause-answer : goal.returns-in-None-clause-answer
+returns-in-None-clause-answer c P From of =
     let before = c.args.nodes.now in
-    record {
-      small = λ h. absurd (omega arith);
-      answer = λ P From of.
-          subst (λ (b : Bool). Answered b P From (among c.args.to.now) before (Ok None) before) (sym (le-ltb (length before) 160 (omega arith)))
-          (no_chain P From (among c.args.to.now) c.args.self.now of c.in-None.ensures, refl);
-    }
+    subst (λ (b : Bool). Answered b P From (among c.args.to.now) before (Ok None) before) (sym (le-ltb (length before) 160 (omega arith)))
+    (no_chain P From (among c.args.to.now) c.args.self.now of c.in-None.ensures, refl)

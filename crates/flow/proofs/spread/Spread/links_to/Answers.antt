@@ -1,9 +1,10 @@
+use Rattle.std.proofs.Common.{◌≡◌, option_map, rules}
+use Rattle.flow.specs.declared.spread.Near.{Near}
 use Rattle.flow.specs.Sets.{among}
-use Rattle.flow.proofs.Nearest.{no_chain, shortest}
+use Rattle.flow.proofs.Nearest.{fewest_links}
 use Rattle.flow.proofs.spread.Spread.links_to.Goals as goal
 
-pub returns-in-Some : goal.returns-in-Some
-returns-in-Some c P From of = shortest P From (among c.args.to.now) c.args.self.now of c.in-Some.near c.in-Some.ensures
-
-pub returns-in-None : goal.returns-in-None
-returns-in-None c P From of = no_chain P From (among c.args.to.now) c.args.self.now of c.in-None.ensures
+pub returns : goal.returns
+returns c P From of =
+    let e : c.map.result ≡ option_map (λ (n : Near). n.links) c.nearest.result = search rules in
+    rw e (fewest_links P From (among c.args.to.now) c.args.self.now of c.nearest.result c.nearest.ensures)

@@ -1,11 +1,7 @@
-use Rattle.std.proofs.Common.{true, sym, refl, ap, ◌∙◌}
-use Rattle.std.proofs.lemmas.Bool.{true≢false, eq-eqb}
-use Rattle.label.proofs.Shows.{no_letter_put, letter_put, letter_passed, letters_put}
+use Rattle.std.proofs.Common.{true, sym, refl, ◌∙◌}
+use Rattle.label.proofs.Shows.{letter_put, letter_passed}
 use Rattle.label.proofs.show.RightsDisplay.fmt.Goals as goal
 use Rattle.label.proofs.show.RightsDisplay.fmt.Goals.{then-has+in_ok-write_char, else-has}
-
-pub loop-letter-init : goal.loop-letter-init
-loop-letter-init g c = no_letter_put g.W.Write.write_str_gives c.args.self.now _
 
 pub loop-letter-preserved : goal.loop-letter-preserved
 loop-letter-preserved g c plain =
@@ -16,9 +12,3 @@ loop-letter-preserved g c plain =
           (w.in_ok-write_char.ensures.writes so_far.plain (refl {a = true}))
       | else-has w ↦ letter_passed g.W.Write.write_str_gives c.args.self.now _ _ _ _ c.loop-letter-test.true (sym c.has.ensures ∙ w.if-has.false) w.f-is so_far
     ]
-
-pub returns-clause-writes : goal.returns-clause-writes
-returns-clause-writes g c plain ok =
-    letters_put g.W.Write.write_str_gives c.args.self.now _ _ _ c.loop-letter-test.false
-    (λ e. true≢false (sym (c.eq.ensures ∙ eq-eqb _ _ (e ∙ ap (λ s. s.bits) (sym c.none.ensures))) ∙ c.if-eq.false))
-    (c.loop-letter.invariant plain)

@@ -1,25 +1,21 @@
-use Rattle.std.proofs.Common.{◌≡◌, ◌<◌, ap, ◌∙◌, arith, rules}
-use Rattle.std.proofs.lemmas.List.{length-set}
+use Rattle.std.proofs.Common.{◌≡◌, Some, rules}
 use Rattle.policy.specs.Cells.{cell_of}
 use Rattle.policy.specs.Grants.{type_at}
 use Rattle.policy.specs.Holds.{model_of}
-use Rattle.policy.proofs.Sheets.{filled_more}
+use Rattle.policy.specs.Sheets.{blank_cell}
+use Rattle.policy.proofs.Filled.{filled}
 use Rattle.policy.proofs.complete.Policy.sheet.Goals as goal
-
-pub loop-d-preserved : goal.loop-d-preserved
-loop-d-preserved c =
-    let m = model_of c.args.self.now in
-    let p = c.as_bytes-bytes.result.now in (
-      length-set _ _ _ ∙ c.loop-d.invariant.0,
-      filled_more (λ k x. x ≡ cell_of m k p (type_at m p)) c.loop-d.cells c.loop-d.d c.cell.result _ (search rules) c.loop-d.invariant.1 c.cell.ensures,
-    )
 
 pub returns : goal.returns
 returns c =
-    let m = model_of c.args.self.now in
+    let s = c.site-site.result in
+    let n = model_of s.policy.now in
+    let typed : Some s.typ ≡ type_at n s.path.now = s.typed in
+    let policy = c.site-site.ensures.policy in
+    let path = c.site-site.ensures.path in
     record {
-      typ = c.site-site.ensures.typ;
+      typ = cc;
       cells = λ d l.
-          let h : d < c.loop-d.d = omega (arith, l, c.loop-d-test.false) in
-          c.loop-d.invariant.1 d h ∙ ap (λ b. cell_of m d b (type_at m b)) c.as_bytes-bytes.ensures.value;
+          let made = filled 32 (λ k x. x ≡ cell_of n k s.path.now (type_at n s.path.now)) (λ i y q h k. (search rules, search rules)) _ c.from_fn.ensures.items d blank_cell l in
+          cc;
     }

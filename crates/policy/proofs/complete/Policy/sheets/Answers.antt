@@ -1,25 +1,16 @@
-use Rattle.std.proofs.Common.{◌≡◌, [], map, length, get_or, sym, ap, ◌∙◌, subst, arith, rules}
-use Rattle.std.proofs.lemmas.List.{length-set}
-use Rattle.label.specs.Texts.{text}
+use Rattle.std.proofs.Common.{◌<◌, ◌≤◌, length, ap, arith, rules}
 use Rattle.policy.specs.Grants.{path_of}
 use Rattle.policy.specs.Holds.{model_of}
 use Rattle.policy.specs.Sheets.{SheetFor, written, number_of}
-use Rattle.policy.proofs.Sheets.{filled_more, path_read}
+use Rattle.policy.proofs.Filled.{filled}
 use Rattle.policy.proofs.complete.Policy.sheets.Goals as goal
-
-pub loop-o-preserved : goal.loop-o-preserved
-loop-o-preserved c =
-    let m = model_of c.args.self.now in
-    let is : path_of m c.loop-o.o ≡ text c.index-objects-o.result =
-    ap (λ os. get_or (map text os) c.loop-o.o []) (sym c.objects-objects.ensures.objects) ∙ path_read c.objects-objects.result.now c.loop-o.o _ c.loop-o-test.true c.index-objects-o.is in (
-      length-set _ _ _ ∙ c.loop-o.invariant.0,
-      filled_more (λ k s. SheetFor m (path_of m k) s) c.loop-o.sheets c.loop-o.o c.sheet.result _ (search rules) c.loop-o.invariant.1
-          (subst (λ p. SheetFor m p c.sheet.result) (sym is) c.sheet.ensures),
-    )
 
 pub returns : goal.returns
 returns c =
+    let m = model_of c.args.self.now in
+    let made = filled 128 (λ o s. o < length m.objects → SheetFor m (path_of m o) s) (λ i y q h k. (search rules, search rules)) _ c.from_fn.ensures.items in
+    let few : length m.objects ≤ 128 = omega (arith, c.args.self.now.tables.objects.few, c.args.self.now.tables.objects.list.ok.0) in
     record {
-      cells = λ at h. ap written ((c.loop-o.invariant.1 at.0 (omega (arith, h.0, c.loop-o-test.false, ap length c.objects-objects.ensures.objects))).cells at.1 h.1);
-      types = λ o h. ap number_of (c.loop-o.invariant.1 o (omega (arith, h, c.loop-o-test.false, ap length c.objects-objects.ensures.objects))).typ;
+      cells = λ at h. ap written ((made at.0 _ (omega (arith, few, h.0)) h.0).cells at.1 h.1);
+      types = λ o h. ap number_of (made o _ (omega (arith, few, h)) h).typ;
     }

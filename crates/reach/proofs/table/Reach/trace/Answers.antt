@@ -1,7 +1,6 @@
-use Rattle.std.proofs.Common.{◌≡◌, ◌+◌, ◌-◌, ◌<◌, leb, length, sym, ◌∙◌, arith, rules}
+use Rattle.std.proofs.Common.{◌≡◌, ◌+◌, ◌-◌, ◌<◌, length, get_or, sym, ◌∙◌, arith, rules}
 use Rattle.std.proofs.lemmas.List.{length-set}
-use Rattle.std.proofs.lemmas.Bool.{cond-true, le-leb}
-use Rattle.reach.proofs.SteppingBack.{distance_bounds, stepping_none, stepping_more, stepping_all}
+use Rattle.reach.proofs.SteppingBack.{distance_bounds, has_step, parent_is, stepping_none, stepping_more, stepping_all}
 use Rattle.reach.proofs.table.Reach.trace.Goals as goal
 
 pub overflow_cast-nodes : goal.overflow_cast-nodes
@@ -25,18 +24,21 @@ pub bounds-nodes-k-in-loop-k : goal.bounds-nodes-k-in-loop-k
 bounds-nodes-k-in-loop-k c =
     omega (arith, (distance_bounds _ _ _ (sym c.in_ok-n.ensures)).1, simp length-set at c.loop-k.auto.nodes, c.loop-k.auto.k)
 
+pub unwrap-requires : goal.unwrap-requires
+unwrap-requires c =
+    let e : (c.loop-k.k - 1) + 1 ≡ c.loop-k.k = omega arith in
+    rw c.step.ensures (has_step c.args.self.now (get_or c.loop-k.nodes ((c.loop-k.k - 1) + 1) 0) c.loop-k.k (rw e c.loop-k.invariant.far))
+
 pub loop-k-preserved : goal.loop-k-preserved
 loop-k-preserved c =
     let e : (c.loop-k.k - 1) + 1 ≡ c.loop-k.k = omega arith in
     let small = (distance_bounds _ _ _ (sym c.in_ok-n.ensures)).1 in
     let long : length c.loop-k.nodes ≡ length c.args.nodes.now = simp length-set at c.loop-k.auto.nodes in
-    stepping_more _ _ _ (c.loop-k.k - 1) _ _ (omega (arith, c.loop-k.auto.k)) small (omega arith) (rw e c.loop-k.invariant)
+    let parent = parent_is c.args.self.now _ _ (sym c.step.ensures ∙ c.unwrap.ensures) in
+    stepping_more _ _ _ (c.loop-k.k - 1) _ _ _ parent (omega (arith, c.loop-k.auto.k)) small (omega arith) (rw e c.loop-k.invariant)
 
-pub returns : goal.returns
-returns c =
+pub returns-clause-nodes : goal.returns-clause-nodes
+returns-clause-nodes c =
     let done : c.loop-k.k ≡ 0 = omega arith in
     let long : length c.loop-k.nodes ≡ length c.args.nodes.now = simp length-set at c.loop-k.auto.nodes in
-    record {
-      answer = c.in_ok-n.ensures ∙ sym (cond-true (leb 160 _) _ _ (le-leb 160 _ c.if-nodes-lt-NODES.false));
-      nodes = stepping_all _ _ _ _ _ (omega arith) (rw done at c.loop-k.invariant);
-    }
+    stepping_all _ _ _ _ _ (omega arith) (rw done at c.loop-k.invariant)

@@ -1,17 +1,11 @@
-use Rattle.std.proofs.Common.{ap, ◌∙◌, rules}
-use Rattle.rules.specs.Typing.{rule_on}
-use Rattle.rules.proofs.Finds.{find_here, find_more, find_none}
+use Rattle.std.proofs.Common.{◌∙◌, rules, tests}
+use Rattle.std.proofs.lemmas.Iterator.{YieldsList-from_slice}
+use Rattle.std.proofs.lemmas.Iterator.Search.{find_from_yields_List}
+use Rattle.rules.specs.Typing.{stands_on, rule_on}
 use Rattle.rules.proofs.table.Rules.find.Goals as goal
 
-pub returns-then-stands_on : goal.returns-then-stands_on
-returns-then-stands_on c =
-    find_here _ _ _ _ _ c.loop-rule-test.true c.rule-item.is c.loop-rule.invariant (search rules)
-    ∙ ap (λ x. rule_on x c.args.flag c.args.path.now) c.deref-rule-items.ensures.value
-
-pub loop-rule-preserved : goal.loop-rule-preserved
-loop-rule-preserved c = find_more _ _ c.rule-item.result _ _ c.loop-rule-test.true c.rule-item.is c.loop-rule.invariant (search rules)
-
 pub returns : goal.returns
+unfolding rule_on
 returns c =
-    find_none _ _ _ _ c.loop-rule-test.false c.loop-rule.invariant
-    ∙ ap (λ x. rule_on x c.args.flag c.args.path.now) c.deref-rule-items.ensures.value
+    c.copied.ensures
+    ∙ find_from_yields_List (λ r. stands_on r c.args.flag c.args.path.now) _ _ _ c.find.ensures.ran (YieldsList-from_slice c.args.self.now.list.items cc) (λ x b q k. search (rules, tests))

@@ -4,7 +4,7 @@ use Rattle.std.proofs.lemmas.List.{length-set, get_or-replicate}
 use Rattle.tables.specs.Entries.{enters, Entered}
 use Rattle.tables.proofs.Enters.{entered_here, entered_elsewhere, entered_not, entered_at_end}
 use Rattle.tables.proofs.entry.Entries.entered_by.Goals as goal
-use Rattle.tables.proofs.entry.Entries.entered_by.Goals.{then-e-lt32+then-are_same, else-e-lt32, else-e-lt32-via-then-e-lt32+else-are_same, else-e-lt32-via-else-e-lt32}
+use Rattle.tables.proofs.entry.Entries.entered_by.Goals.{then-e-lt32+then-eq, else-e-lt32, else-e-lt32-via-then-e-lt32+else-eq, else-e-lt32-via-else-e-lt32}
 
 pub loop-entry-init : goal.loop-entry-init
 loop-entry-init c = (refl, λ e h. ap (λ b. b || enters c.deref-entry-items.result.now e c.args.path.now) (get_or-replicate 32 e false false h))
@@ -14,16 +14,16 @@ loop-entry-preserved c =
     let x = c.entry-item.result in
     let p = c.args.path.now in
     elim c.if-e-lt32.branch [
-      | then-e-lt32+then-are_same w ↦
+      | then-e-lt32+then-eq w ↦
           let m : x.dom.0 < length c.loop-entry.entered = omega (arith, w.if-e-lt32.true, c.loop-entry.invariant.0) in (
             ap length w.entered-is ∙ length-set _ _ _ ∙ c.loop-entry.invariant.0,
             entered_here _ _ x p c.loop-entry-test.true c.entry-item.is _ c.loop-entry.invariant.1 _ w.entered-is m
-                (sym w.if-are_same.true ∙ w.are_same.ensures ∙ ap (λ t. bytes_eq t p) w.as_bytes.ensures.value),
+                (sym w.if-eq.true ∙ w.eq.ensures ∙ ap (λ t. bytes_eq t p) w.as_bytes.ensures.value),
           )
       | else-e-lt32 w ↦ (
         ap length w.entered-is ∙ c.loop-entry.invariant.0,
         elim w.else-e-lt32.branch [
-          | else-e-lt32-via-then-e-lt32+else-are_same v ↦ entered_not _ _ x p c.loop-entry-test.true c.entry-item.is _ c.loop-entry.invariant.1 _ w.entered-is (sym v.if-are_same.false ∙ v.are_same.ensures ∙ ap (λ t. bytes_eq t p) v.as_bytes.ensures.value)
+          | else-e-lt32-via-then-e-lt32+else-eq v ↦ entered_not _ _ x p c.loop-entry-test.true c.entry-item.is _ c.loop-entry.invariant.1 _ w.entered-is (sym v.if-eq.false ∙ v.eq.ensures ∙ ap (λ t. bytes_eq t p) v.as_bytes.ensures.value)
           | else-e-lt32-via-else-e-lt32 v ↦ entered_elsewhere _ _ x p c.loop-entry-test.true c.entry-item.is _ c.loop-entry.invariant.1 _ w.entered-is v.if-e-lt32.false
         ],
       )
