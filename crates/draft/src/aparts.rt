@@ -26,7 +26,7 @@ pub(crate) fn first_broken(decisions: &Sealed, chart: &Chart) -> Option<(Typ, Ty
     requires { Charts (asked decisions.now.policy) chart.now }
     ensures { Breaks (asked decisions.now.policy) (model_of decisions.now.policy).aparts result }
 {
-    // Each separation has a search of its own, and the first that is broken ends them.
+    // A chain tells nothing of the separations that it passed over but a function type, so each is looked at in turn.
     for apart in decisions.policy().tables().aparts() {
         if is_broken(decisions, chart, *apart) {
             return Some((apart.from, apart.to));

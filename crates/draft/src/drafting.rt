@@ -1,4 +1,4 @@
-//! Trying, keeping and withdrawing modules, and sealing.
+//! Trying, keeping and withdrawing modules, and sealing. Each call takes apart the state of the phase that it requires.
 ghost use Rattle.std.specs.Prelude.{◌≡◌, false, Some, IfOk};
 ghost use Rattle.flow.specs.Charts.{Charts};
 ghost use Rattle.policy.specs.Abstract.{asked};

@@ -6,6 +6,8 @@ ghost use Rattle.draft.specs.Drafts.{phase_of};
 
 #[cfg(test)]
 mod tests {
+    // Cases are gone through in turn, and the first that fails ends the test.
+
     use draft::draft::Draft;
     use draft::fault::{Failure, Fault};
     use draft::phase::Phase;

@@ -76,6 +76,7 @@ fn write_grants(rt: &HostRuntime, sealed: &Sealed) -> io::Result<()> {
     println!(rt)?;
     for (o, path) in (0..tables.object_count()).zip(tables.objects()) {
         print!(rt; "  {path:<14}")?;
+        // The tables are asked by number.
         for d in 0..tables.domain_count() {
             let rights = granted(sealed, Dom(d), Obj(o));
             let letters = format!(in rt.alloc(); "{rights}")?;
@@ -96,6 +97,7 @@ fn write_passages_of(
 ) -> io::Result<()> {
     let domains = sealed.policy().tables().domains();
     let from = Named(domains, dom.0);
+    // Passages are asked for by number.
     for e in 0..sealed.policy().tables().domain_count() {
         if sealed.passes(dom, obj, Dom(e)) {
             let how = if sealed.auto(dom, obj) == Some(Dom(e)) {
@@ -116,6 +118,7 @@ fn write_passages_of(
 fn write_passages(rt: &HostRuntime, sealed: &Sealed) -> io::Result<()> {
     let tables = sealed.policy().tables();
     println!(rt; "Passages")?;
+    // Passages are asked for by number.
     for d in 0..tables.domain_count() {
         for (o, path) in (0..tables.object_count()).zip(tables.objects()) {
             write_passages_of(rt, sealed, Dom(d), Obj(o), path)?;

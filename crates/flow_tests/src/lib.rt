@@ -3,6 +3,8 @@
 
 #[cfg(test)]
 mod tests {
+    // Cases are gone through in turn, and the first that fails ends the test.
+
     use draft::draft::Draft;
     use draft::fault::Failure;
     use draft::sealed_policy::SealedPolicy;

@@ -45,7 +45,7 @@ fn misfit(mark: Mark) -> Reason
 pub(crate) fn on_mark(position: Position, mark: Mark) -> Result<Position, Reason>
     ensures { result ≡ on_mark position mark }
 {
-    // A mark that does not fit goes by let .. else into the fault, as a lacking arrow and a name that was not found do.
+    // What is read stands in front, and the fault beside it.
     let Some(next) = meets(position, mark) else {
         return Err(misfit(mark));
     };

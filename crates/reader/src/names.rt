@@ -18,7 +18,7 @@ fn declared<T: Copy>(word: &[u8], found: Option<T>) -> Result<T, Reason>
     if !is_name(word) {
         return Err(Reason::Misshapen);
     }
-    // A name that was not found goes by let .. else into the fault, as a lacking arrow and a mark that does not fit do.
+    // What is read stands in front, and the fault beside it.
     let Some(named) = found else {
         return Err(Reason::Undeclared);
     };

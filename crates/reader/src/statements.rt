@@ -51,7 +51,7 @@ impl Composition {
     fn specify(&mut self, dom: Dom) -> Result<Position, Stop>
         ensures { Steps (due.specify (composed self.old) dom) result (composed self.new) }
     {
-        // A number beyond the marks is no domain's. A mark lent by `get_mut` would tell nothing of the marks after it.
+        // A number beyond the marks is no domain's. Once a mark lent by `get_mut` is given back, nothing would be known of the marks.
         let d = dom.0 as usize;
         if d < 32 {
             if self.specified[d] {
@@ -91,6 +91,7 @@ impl Composition {
     fn rights_word(&mut self, dom: Dom, word: &[u8]) -> Result<Position, Stop>
         ensures { Steps (due.rights_word (composed self.old) dom word.now) result (composed self.new) }
     {
+        // What is read stands in front, and the fault beside it.
         let Some((letters, name)) = split_arrow(word) else {
             return Err(Reason::Misfit.into());
         };
@@ -104,6 +105,7 @@ impl Composition {
     fn passage_word(&mut self, dom: Dom, word: &[u8]) -> Result<Position, Stop>
         ensures { Steps (due.passage_word (composed self.old) dom word.now) result (composed self.new) }
     {
+        // What is read stands in front, and the fault beside it.
         let Some((way, name)) = split_arrow(word) else {
             return Err(Reason::Misfit.into());
         };

@@ -3,6 +3,8 @@
 
 #[cfg(test)]
 mod tests {
+    // Cases are gone through in turn, and the first that fails ends the test.
+
     use label::numbers::Typ;
     use label::path::Path;
     use label::refusal::Refusal;

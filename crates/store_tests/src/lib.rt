@@ -3,6 +3,8 @@
 
 #[cfg(test)]
 mod tests {
+    // Cases are gone through in turn, and the first that fails ends the test.
+
     use packed_store::PackedStore;
     use packed_store::records::Records;
     use slot_store::SlotStore;
