@@ -15,7 +15,8 @@ use Rattle.reader.specs.declared.position.Position.{Position}
 use Rattle.reader.specs.declared.position.Position.TheVariants.{Start}
 use Rattle.reader.specs.declared.reason.Reason.{Reason}
 use Rattle.reading_laws.specs.Ahead.{FirstFaultDoesNotLookAhead}
-use Rattle.reading_laws.proofs.Steps.{reading_by, reading-nil, reading-cons}
+use Rattle.reader.proofs.Taking.{reading_ends}
+use Rattle.reading_laws.proofs.Steps.{reading_by, reading-cons}
 use Rattle.reading_laws.proofs.Places.{places_from}
 
 tables_are_no_fault : {c : Composed} {e : Reason} {place : ℕ} → tables c ≡ fault e place → ⊥
@@ -26,7 +27,7 @@ fault_places h = cc
 
 -- no fault lies before all tokens
 no_fault_before : (c : Composed) (p : Position) (ts : List Piece) (e : Reason) (place : ℕ) → AllByRecursion (λ t. place < offset t) ts → reading c p ts ≡ fault e place → ⊥
-no_fault_before c p [] e place all h = tables_are_no_fault (sym (reading-nil c p) ∙ h)
+no_fault_before c p [] e place all h = tables_are_no_fault (sym (reading_ends c p) ∙ h)
 no_fault_before c p (at q s ∷ ts) e place all h =
     (elim (on_token c p s) as (λ x. reading_by x q ts ≡ fault e place → ⊥) [
       | Ok next ↦ λ g. no_fault_before next.0 next.1 ts e place all.1 g

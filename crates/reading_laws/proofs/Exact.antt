@@ -19,7 +19,8 @@ use Rattle.reader.specs.declared.position.Position.{Position}
 use Rattle.reader.specs.declared.position.Position.TheVariants.{Start}
 use Rattle.reader.specs.declared.reason.Reason.{Reason}
 use Rattle.reading_laws.specs.Exact.{Taken, FirstRefused, Exact, ReadingIsExact}
-use Rattle.reading_laws.proofs.Steps.{reading_by, reading-nil, reading-cons}
+use Rattle.reader.proofs.Taking.{reading_ends}
+use Rattle.reading_laws.proofs.Steps.{reading_by, reading-cons}
 
 -- ── Tokens that are taken ──
 
@@ -89,7 +90,7 @@ says_more (fault why o) c p place s ts next e f =
     }
 
 says : (c : Composed) (p : Position) (ts : List Piece) → Says c p ts (reading c p ts)
-says c p [] = subst (Says c p []) (sym (reading-nil c p)) (p, (refl, refl))
+says c p [] = subst (Says c p []) (sym (reading_ends c p)) (p, (refl, refl))
 says c p (at place s ∷ ts) =
     subst (Says c p (at place s ∷ ts)) (sym (reading-cons c p place s ts))
     ((elim (on_token c p s) as (λ x. on_token c p s ≡ x → Says c p (at place s ∷ ts) (reading_by x place ts)) [
@@ -135,7 +136,7 @@ module _ (order : TokensAreInOrder) (c : Composed) (text : List ℕ) where
   said_exactly (fault e place) f = (at_one f.before f.behind (at place f.said) (subst (AllByRecursion (λ t. offset t ≤ length text)) f.stands within_text), f)
 
   exactly_read : (o : Outcome) → Exact c text o → read c text ≡ o
-  exactly_read (tables d) t = ap (reading c Start) (sym (append-nil (tokens_of text))) ∙ taken_goes_on c Start (tokens_of text) [] d Start t ∙ reading-nil d Start
+  exactly_read (tables d) t = ap (reading c Start) (sym (append-nil (tokens_of text))) ∙ taken_goes_on c Start (tokens_of text) [] d Start t ∙ reading_ends d Start
   exactly_read (fault e place) (le, f) =
       ap (reading c Start) f.stands
       ∙ taken_goes_on c Start f.before (at place f.said ∷ f.behind) f.composed f.position f.taken

@@ -15,7 +15,9 @@ use Rattle.reader.specs.Reading.{reading}
 use Rattle.reader.specs.Statements.{on_token}
 use Rattle.reader.specs.declared.position.Position.{Position}
 use Rattle.reading_laws.specs.Turns.{further}
-use Rattle.reading_laws.proofs.Steps.{reading_by, reading-nil, reading-cons, lex_by, lex-nil, lex-cons}
+use Rattle.scan.proofs.LexSteps.{lex_by, lex-nil, lex-cons}
+use Rattle.reader.proofs.Taking.{reading_ends}
+use Rattle.reading_laws.proofs.Steps.{reading_by, reading-cons}
 
 -- the token, n bytes further on
 abbrev pub moved : ℕ → Piece → Piece
@@ -37,7 +39,7 @@ pub tokens_further : (n : ℕ) (v : List ℕ) → lex mode.Blank n v ≡ map (mo
 tokens_further n v = ap (λ k. lex mode.Blank k v) (sym (zero-add n)) ∙ lex_further n mode.Blank 0 v
 
 pub reading-further : (n : ℕ) (c : Composed) (p : Position) (ts : List Piece) → reading c p (map (moved n) ts) ≡ further n (reading c p ts)
-reading-further n c p [] = reading-nil c p ∙ ap (further n) (sym (reading-nil c p))
+reading-further n c p [] = reading_ends c p ∙ ap (further n) (sym (reading_ends c p))
 reading-further n c p (at place s ∷ ts) =
     reading-cons c p (place + n) s (map (moved n) ts)
     ∙ elim (on_token c p s) as (λ x. reading_by x (place + n) (map (moved n) ts) ≡ further n (reading_by x place ts)) [
