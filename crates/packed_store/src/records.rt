@@ -45,6 +45,8 @@ impl Layout for Records {
 
     ghost exact = { intact_holds };
 
+    ghost apart = { λ xs no ok. no (table xs) (intact_holds xs ok) };
+
     fn read(all: &[u8], place: usize, buffer: &mut [u8]) -> Option<usize> {
         let start = find(all, place);
         let len = record_length(all, start, place)?;

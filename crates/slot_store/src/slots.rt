@@ -40,6 +40,8 @@ impl Layout for Slots {
 
     ghost exact = { contents_are_laid };
 
+    ghost apart = { λ xs no. no };
+
     fn read(all: &[u8], place: usize, buffer: &mut [u8]) -> Option<usize> {
         let at = SLOT * place;
         let len = (all[at] as usize).checked_sub(1)?;

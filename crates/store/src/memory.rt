@@ -50,6 +50,8 @@ pub trait Layout {
 
     ghost exact: { (xs : List ℕ) → Sound xs → Exact xs };
 
+    ghost apart: { (xs : List ℕ) → Foreign xs → Sound xs → ⊥ };
+
     // Each call asks for its facts anew, since beside a `&mut` no ghost field is covered by the borrow checker; `MemoryStore` keeps them.
 
     /// The length of what the place holds, whose bytes are then the buffer's first, or `None` for an absent place.
