@@ -1,5 +1,5 @@
 -- The table of shared entry paths is filled entry by entry.
-use Rattle.std.proofs.Common.{◌≡◌, ℕ, ◌+◌, ◌<◌, ◌≤◌, Bool, true, false, ◌&&◌, ◌||◌, eqb, List, length, get_or, drop, set, replicate, sym, refl, ap, ◌∙◌, subst, ⊎_elim, arith}
+use Rattle.std.proofs.Common.{◌≡◌, ℕ, ◌+◌, ◌<◌, ◌≤◌, Bool, true, false, ◌&&◌, ◌||◌, eqb, List, length, get_or, drop, set, replicate, sym, refl, ap, ◌∙◌, ⊎_elim, arith}
 use Rattle.std.specs.Str.{bytes_eq}
 use Rattle.std.proofs.lemmas.Slice.Eq.{bytes_eq-Decides}
 use Rattle.std.proofs.lemmas.List.{at_drop_more, at_drop_all, get_or-replicate, get_or-set_same, get_or-set_other}
@@ -89,8 +89,10 @@ module _ (xs : List Entry) (i : ℕ) (l : length xs ≤ i) where
       sym (or-false (marked row f)) ∙ ap (λ b. marked row f || b) (sym (at_drop_all (λ z. enters z f p) xs i l)) ∙ inv f a h
 
   pub all_gathered : (e : ℕ) (row : List Bool) → Gathering xs e i row → Sharers xs e row
-  all_gathered e row inv = record { marks = λ f a h.
-      sym (or-false (marked row f)) ∙ ap (λ b. marked row f || b) (sym (at_drop_all (λ z. shared_by z xs e f) xs i l)) ∙ inv f a h }
+  all_gathered e row inv = record {
+    marks = λ f a h.
+        sym (or-false (marked row f)) ∙ ap (λ b. marked row f || b) (sym (at_drop_all (λ z. shared_by z xs e f) xs i l)) ∙ inv f a h;
+  }
 
 pub none_gathered : (xs : List Entry) (e : ℕ) → Gathering xs e 0 (replicate 32 false)
 none_gathered xs e f a h = ap (λ b. b || shared_by xs xs e f) (get_or-replicate 32 f false false h)
