@@ -6,5 +6,8 @@ ghost use Rattle.scan.specs.Lines.{line_of};
 pub fn line_of(text: &[u8], place: usize) -> usize
     ensures { result ≡ line_of text.now place }
 {
-    1 + text.iter().take(place).filter(|b| **b == b'\n').count()
+    1 + text[..place.min(text.len())]
+        .iter()
+        .filter(|b| **b == b'\n')
+        .count()
 }
