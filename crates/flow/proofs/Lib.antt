@@ -6,6 +6,7 @@ pub mod Ranges
 pub mod Nodes
 pub mod LinkParts
 pub mod Targets
+pub mod BlankRows
 pub mod Lives
 pub mod Explored
 pub mod Nearest

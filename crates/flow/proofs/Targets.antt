@@ -1,15 +1,12 @@
 -- The targets of a domain are marked object by object.
-use Rattle.std.proofs.Common.{◌≡◌, ℕ, ◌+◌, ◌<◌, ◌≤◌, Bool, true, false, ◌||◌, ◌↔◌, ltb, List, [], get_or, replicate, sym, ap, ◌∙◌, ⊎_elim, arith}
+use Rattle.std.proofs.Common.{◌≡◌, ℕ, ◌+◌, ◌<◌, ◌≤◌, Bool, true, false, ◌||◌, ltb, List, get_or, replicate, sym, ap, ◌∙◌, ⊎_elim, arith}
 use Rattle.std.proofs.lemmas.List.{get_or-replicate}
 use Rattle.std.proofs.lemmas.Bool.{true≢false, cases_eq, and_from, lt-ltb, or_cases, or_left, or_right}
-use Rattle.machine.specs.Flow.{Node, obj, dom}
+use Rattle.machine.specs.Flow.{obj, dom}
 use Rattle.machine.specs.Policy.{running, Policy as Asked}
-use Rattle.flow.specs.declared.chart.Links.{Links}
-use Rattle.flow.specs.declared.passages.Passing.{Passing}
 use Rattle.flow.specs.Allows.{allowed}
-use Rattle.flow.specs.Nodes.{Numbered}
-use Rattle.flow.specs.Passages.{Passage, TargetsOf, Targeted}
-use Rattle.flow.specs.Tables.{TableOf}
+use Rattle.flow.specs.Passages.{Passage, TargetsOf}
+use Rattle.flow.specs.Tables.{LeadsTo, RowOf}
 
 module _ (P : Asked) (d : ℕ) where
   pub none_yet : TargetsOf P d 0 (replicate 32 false)
@@ -46,18 +43,10 @@ module _ (P : Asked) (d : ℕ) where
           (cases_eq w.0 o),
     )
 
--- the marks are the passages
-targeted_is_passage : (P : Asked) → P.objects ≤ 128 → (s : Passing) → ((d : ℕ) → d < 32 → TargetsOf P d 128 (get_or s.targets d [])) → (x y : Node) → Numbered x → Numbered y → Targeted s x y ↔ Passage P x y
-targeted_is_passage P few s all (obj o) y h k = (λ q. absurd q, λ q. absurd q)
-targeted_is_passage P few s all (dom d) (obj o) h k = (λ q. absurd q, λ q. absurd q)
-targeted_is_passage P few s all (dom d) (dom e) h k = (
-  λ q. let w = (all d h e k).0 q in (w.0, w.2),
-  λ w. (all d h e k).1 (w.0, omega (arith, few, P.pass_object d w.0 e w.1), w.1),
+-- the row of the targets is that of the passages
+pub passages_row : (P : Asked) (d : ℕ) (marks row : List Bool) → P.objects ≤ 128 → TargetsOf P d 128 marks → LeadsTo marks row → RowOf (Passage P (dom d)) row
+passages_row P d marks row few all led (obj o) l = (λ h. true≢false (sym h ∙ led.objects o l), λ q. absurd q)
+passages_row P d marks row few all led (dom e) l = (
+  λ h. let w = (all e l).0 (sym (led.domains e l) ∙ h) in (w.0, w.2),
+  λ w. led.domains e l ∙ (all e l).1 (w.0, omega (arith, few, P.pass_object d w.0 e w.1), w.1),
 )
-
--- a table of the marks is one of the passages
-pub passages_table : (P : Asked) → P.objects ≤ 128 → (s : Passing) → ((d : ℕ) → d < 32 → TargetsOf P d 128 (get_or s.targets d [])) → (t : Links) → TableOf (Targeted s) t → TableOf (Passage P) t
-passages_table P few s all t table x y h k =
-    let q = table x y h k in
-    let r = targeted_is_passage P few s all x y h k in
-    (λ l. r.0 (q.0 l), λ p. q.1 (r.1 p))

@@ -1,8 +1,7 @@
 -- Where domains may pass to, and which domains are live.
-use Rattle.std.specs.Prelude.{◌≡◌, ℕ, ◌<◌, Bool, true, false, ◌↔◌, List, [], slice_index_or}
+use Rattle.std.specs.Prelude.{◌≡◌, ℕ, ◌<◌, Bool, true, false, ◌↔◌, List, slice_index_or}
 use Rattle.machine.specs.Flow.{Live, Node, obj, dom}
 use Rattle.machine.specs.Policy.{Policy as Asked}
-use Rattle.flow.specs.declared.passages.Passing.{Passing}
 
 -- d may pass to e, by some object
 abbrev pub Passes : Asked → ℕ → ℕ → Type 0
@@ -17,16 +16,6 @@ Passage P (obj o) y = ⊥
 -- the marked domains are those to which d may pass, by an object below n
 abbrev pub TargetsOf : Asked → ℕ → ℕ → List Bool → Type 0
 TargetsOf P d n row = (e : ℕ) → e < 32 → (slice_index_or row e false ≡ true) ↔ ((o : ℕ) × (o < n) × (P.pass d o e ≡ true))
-
--- whether e is marked among the targets of d
-abbrev pub target : Passing → ℕ → ℕ → Bool
-target s d e = slice_index_or (slice_index_or s.targets d []) e false
-
--- the marks lead from a domain to a domain
-abbrev pub Targeted : Passing → Node → Node → Type 0
-Targeted s (dom d) (dom e) = target s d e ≡ true
-Targeted s (dom d) (obj o) = ⊥
-Targeted s (obj o) y = ⊥
 
 -- the marked domains are the live ones
 abbrev pub Alive : Asked → List Bool → Type 0

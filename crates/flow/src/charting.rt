@@ -13,7 +13,7 @@ impl Chart {
     pub fn of(policy: &Sealed) -> Chart
         ensures { Charts (asked policy.now.policy) result }
     {
-        let passages = Links::of(&Passing::of(policy));
+        let passages = Links::of(&Passing(policy));
         let live = live_domains(policy, &passages);
         Chart {
             objects: policy.policy().tables().object_count() as usize,

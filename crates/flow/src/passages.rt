@@ -1,15 +1,16 @@
 //! The passages between domains.
-ghost use Rattle.std.specs.Prelude.{◌≡◌, ℕ, ◌<◌, false, ◌||◌, [], slice_index_or};
+ghost use Rattle.std.specs.Prelude.{◌≡◌, ◌<◌, false, ◌||◌, slice_index_or};
 ghost use Rattle.policy.specs.Abstract.{asked};
 ghost use Rattle.policy.specs.Holds.{model_of};
 ghost use Rattle.policy.specs.Passages.{pass};
-ghost use Rattle.flow.specs.Passages.{TargetsOf, target, Targeted};
+ghost use Rattle.flow.specs.Passages.{Passage, TargetsOf};
 
 use crate::asking::may_run;
 use crate::node::Node;
-use crate::relation::Relation;
+use crate::relation::{Relation, to_domains};
 use label::numbers::{Dom, Obj};
 use policy::sealed::Sealed;
+use reach::graph::NODES;
 use std::array;
 
 // The domains to which a domain, live or not, may pass by some object. Whether it may run an object is asked once, and not again for
@@ -32,42 +33,17 @@ fn targets_of(policy: &Sealed, dom: Dom) -> [bool; 32]
     targets
 }
 
-// For each domain, live or not, those to which it may pass by some object.
+// That a domain, live or not, may pass to another by some object.
 #[derive(Drop)]
-pub(crate) struct Passing {
-    pub(crate) targets: [[bool; 32]; 32],
-}
+pub(crate) struct Passing<'a>(pub(crate) &'a Sealed);
 
-impl Passing {
-    pub(crate) fn of(policy: &Sealed) -> Passing
-        ensures { (d : ℕ) → d < 32 → TargetsOf (asked policy.now.policy) d 128 (slice_index_or result.targets d []) }
-    {
-        Passing {
-            targets: array::from_fn(
-                |d|
-                    requires { d < 32 }
-                    ensures { TargetsOf (asked policy.entry.now.policy) d 128 result }
-                { targets_of(policy, Dom(d as u8)) },
-            ),
-        }
-    }
+impl Relation for Passing<'_> {
+    ghost holds = { λ s. Passage (asked s.0.now.policy) };
 
-    fn leads(&self, from: Dom, to: Dom) -> bool
-        ensures { result ≡ target self.now from.0 to.0 }
-    {
-        self.targets
-            .get(usize::from(from.0))
-            .is_some_and(|row| row.get(usize::from(to.0)) == Some(&true))
-    }
-}
-
-impl Relation for Passing {
-    ghost holds = { Targeted };
-
-    fn relates(&self, from: Node, to: Node) -> bool {
-        match (from, to) {
-            (Node::Domain(dom), Node::Domain(to)) => self.leads(dom, to),
-            _ => false,
+    fn row(&self, from: Node) -> [bool; NODES] {
+        match from {
+            Node::Object(_) => [false; NODES],
+            Node::Domain(dom) => to_domains(&targets_of(self.0, dom)),
         }
     }
 }

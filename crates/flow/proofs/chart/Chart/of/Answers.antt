@@ -2,15 +2,8 @@ use Rattle.std.proofs.Common.{length, sym, ap, ◌∙◌}
 use Rattle.tables.specs.Model.{model}
 use Rattle.policy.proofs.Asks.{asks}
 use Rattle.flow.proofs.Bounded.{objects_few, domains_few}
-use Rattle.policy.specs.Abstract.{asked}
 use Rattle.flow.proofs.LinkParts.{linked_is_link}
-use Rattle.flow.proofs.Targets.{passages_table}
 use Rattle.flow.proofs.chart.Chart.of.Goals as goal
-
-pub live_domains-live-requires : goal.live_domains-live-requires
-live_domains-live-requires c =
-    let p = c.args.policy.now.policy in
-    passages_table (asked p) (objects_few p) c.of.result c.of.ensures c.of-passages.result c.of-passages.ensures
 
 pub returns : goal.returns
 returns c =
@@ -20,7 +13,7 @@ returns c =
       objects_few = objects_few p;
       domains_few = domains_few p;
       links = λ x y hx hy.
-          let t = c.of-2.ensures x y hx hy in
-          let k = linked_is_link (record { policy = c.args.policy; passages = c.of-passages.result; live = c.live_domains-live.result }) c.live_domains-live.ensures (passages_table (asked p) (objects_few p) c.of.result c.of.ensures c.of-passages.result c.of-passages.ensures) x y hx hy in
+          let t = c.of.ensures x y hx hy in
+          let k = linked_is_link (record { policy = c.args.policy; passages = c.of-passages.result; live = c.live_domains-live.result }) c.live_domains-live.ensures c.of-passages.ensures x y hx hy in
           (λ h. k.0 (t.0 h), λ h. t.1 (k.1 h));
     }
