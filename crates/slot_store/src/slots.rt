@@ -1,5 +1,6 @@
 // Slots in a memory.
-ghost use Rattle.std.specs.Prelude.{◌≡◌, ℕ, ◌+◌, ◌*◌, ◌<◌, ◌≤◌, length, take, drop, MatchBool};
+ghost use Rattle.std.specs.Prelude.{◌≡◌, ℕ, ◌+◌, ◌*◌, ◌<◌, ◌≤◌, length, take, drop, Some, None, nat_eq, MatchBool};
+ghost use Rattle.std.specs.Map.{update};
 ghost use Rattle.std.proofs.Common.{lit≤};
 ghost use Rattle.std.proofs.Props.{props};
 ghost use Rattle.store.specs.Memory.{places_in};
@@ -49,14 +50,27 @@ impl Layout for Slots {
         Some(len)
     }
 
-    fn write(all: &mut [u8], place: usize, bytes: &[u8]) {
+    fn write(all: &mut [u8], place: usize, bytes: &[u8])
+        requires in_range { place < slot_places all.old }
+        requires sound { Marked all.old }
+        requires short { length bytes.now ≤ 64 }
+        ensures contents { slot_contents all.new ≡ update nat_eq (slot_contents all.old) place (Some bytes.now) }
+        ensures sound { Marked all.new }
+        ensures frame { Wrote all.old all.new place (length bytes.now + 1) }
+    {
         let start = SLOT * place;
         let len = bytes.len();
         all[start] = (len + 1) as u8;
         all[start + 1..start + 1 + len].copy_from_slice(bytes);
     }
 
-    fn erase(all: &mut [u8], place: usize) {
+    fn erase(all: &mut [u8], place: usize)
+        requires in_range { place < slot_places all.old }
+        requires sound { Marked all.old }
+        ensures contents { slot_contents all.new ≡ update nat_eq (slot_contents all.old) place None }
+        ensures sound { Marked all.new }
+        ensures frame { Wrote all.old all.new place 0 }
+    {
         all[SLOT * place] = 0;
     }
 

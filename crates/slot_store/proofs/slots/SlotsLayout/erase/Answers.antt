@@ -7,4 +7,5 @@ returns c =
     record {
       contents = clear_is_held _ _ _ c.requires.in_range c.requires.sound w;
       sound = clear_is_marked _ _ _ c.requires.in_range c.requires.sound w;
+      frame = w;
     }
