@@ -7,7 +7,7 @@ ghost use Rattle.policy.specs.Grants.{path_of, no_object};
 ghost use Rattle.policy.specs.Cells.{known};
 ghost use Rattle.policy.specs.Holds.{model_of, decision, read_decision};
 ghost use Rattle.policy.specs.Passages.{passage_to, runs, entered, pass, auto};
-ghost use Rattle.policy.specs.Sheets.{SheetFor, CellsMade, TypesMade, type_number, sheet_at};
+ghost use Rattle.policy.specs.Sheets.{SheetFor, CellsMade, TypesMade, type_number, sheet_at, blank_sheet};
 
 use crate::cell::{Cell, Sheet};
 use crate::complete::Policy;
@@ -21,7 +21,9 @@ use tables::holding::Passage;
 
 impl Sheet {
     // What stands where there is no object.
-    fn blank() -> Sheet {
+    fn blank() -> Sheet
+        ensures { result ≡ blank_sheet }
+    {
         let cell = Cell {
             barrier: None,
             long: 0,
