@@ -48,6 +48,9 @@ impl Layout for Records {
     ghost apart = { λ xs no ok. no (table xs) (intact_holds xs ok) };
 
     fn read(all: &[u8], place: usize, buffer: &mut [u8]) -> Option<usize> {
+        if place >= place_count(all, RECORD) || buffer.len() < LONGEST {
+            return None;
+        }
         let start = find(all, place);
         let len = record_length(all, start, place)?;
         buffer[..len].copy_from_slice(&all[start + 2..start + 2 + len]);
@@ -55,6 +58,9 @@ impl Layout for Records {
     }
 
     fn write(all: &mut [u8], place: usize, bytes: &[u8]) {
+        if place >= place_count(all, RECORD) || bytes.len() > LONGEST {
+            return;
+        }
         let len = bytes.len();
         let start = open_gap(all, place, 2 + len);
         all[start] = place as u8;
@@ -63,7 +69,9 @@ impl Layout for Records {
     }
 
     fn erase(all: &mut [u8], place: usize) {
-        let _ = open_gap(all, place, 0);
+        if place < place_count(all, RECORD) {
+            let _ = open_gap(all, place, 0);
+        }
     }
 
     fn erase_all(all: &mut [u8]) {

@@ -43,13 +43,20 @@ impl Layout for Slots {
     ghost apart = { λ xs no. no };
 
     fn read(all: &[u8], place: usize, buffer: &mut [u8]) -> Option<usize> {
+        if place >= place_count(all, SLOT) || buffer.len() < LONGEST {
+            return None;
+        }
         let at = SLOT * place;
-        let len = (all[at] as usize).checked_sub(1)?;
+        // A mark of memory that is no store's may be above 65.
+        let len = (all[at] as usize).checked_sub(1)?.min(LONGEST);
         buffer[..len].copy_from_slice(&all[at + 1..at + 1 + len]);
         Some(len)
     }
 
     fn write(all: &mut [u8], place: usize, bytes: &[u8]) {
+        if place >= place_count(all, SLOT) || bytes.len() > LONGEST {
+            return;
+        }
         let start = SLOT * place;
         let len = bytes.len();
         all[start] = (len + 1) as u8;
@@ -57,7 +64,9 @@ impl Layout for Slots {
     }
 
     fn erase(all: &mut [u8], place: usize) {
-        all[SLOT * place] = 0;
+        if place < place_count(all, SLOT) {
+            all[SLOT * place] = 0;
+        }
     }
 
     fn erase_all(all: &mut [u8]) {
