@@ -51,13 +51,13 @@ impl Policy {
     }
 
     // What is decided about the object with this number, if there is one.
-    fn sheet_of(&self, o: usize) -> Sheet
+    fn sheet_of(&self, o: usize, blank: Sheet) -> Sheet
         ensures { o < length (model_of self.now).objects → SheetFor (model_of self.now) (path_of (model_of self.now) o) result }
     {
         self.tables
             .objects()
             .get(o)
-            .map_or_else(Sheet::blank, |path| self.sheet(path))
+            .map_or(blank, |path| self.sheet(path))
     }
 
     // Sealing cannot fail and a decision allocates nothing, so there is room for every object that a policy may have.
@@ -65,7 +65,12 @@ impl Policy {
         ensures cells { CellsMade self.now result }
         ensures types { TypesMade self.now result }
     {
-        array::from_fn(|o| self.sheet_of(o))
+        let blank = Sheet::blank();
+        array::from_fn(
+            |o|
+                ensures { o < length (model_of self.entry.now).objects → SheetFor (model_of self.entry.now) (path_of (model_of self.entry.now) o) result }
+            { self.sheet_of(o, blank) },
+        )
     }
 
     // Makes every decision on the objects, once.
