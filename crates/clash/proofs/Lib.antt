@@ -1,3 +1,3 @@
-pub mod Shares
+pub mod Marks
 pub mod Searches
 pub mod Lawful

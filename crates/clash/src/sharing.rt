@@ -1,47 +1,52 @@
 //! Which domains have an entry path in common.
-ghost use Rattle.std.specs.Prelude.{◌≡◌, ◌<◌, ◌&&◌, ◌==◌};
-ghost use Rattle.label.specs.Texts.{text};
-ghost use Rattle.tables.specs.Entries.{enters};
+ghost use Rattle.std.specs.Prelude.{◌≡◌, ◌<◌, Decides};
 ghost use Rattle.tables.specs.Model.{model};
-ghost use Rattle.clash.specs.Clashes.{shares};
-ghost use Rattle.clash.specs.Sharing.{Sharers, Shared};
+ghost use Rattle.clash.specs.Sharing.{Entered, Sharers, Shared};
 
 use label::numbers::Dom;
 use std::array;
-use tables::entry::{Entries, Entry};
+use tables::entry::Entry;
 use tables::table::Tables;
 
 // Tables, and for each domain the higher ones with which it has an entry path in common.
-#[derive(Drop)]
+#[derive(Clone, Copy)]
 pub struct Sharing<'a> {
     pub(crate) tables: &'a Tables,
     pub(crate) rows: [[bool; 32]; 32],
     ghost shared: { Shared (model tables.now).entries rows },
 }
 
-// Whether the entry path is of the one domain, and an entry path of the other too.
-fn is_shared(entries: &Entries, entry: &Entry, dom: Dom, other: Dom) -> bool
-    ensures { result ≡ (entry.now.dom.0 == dom.0 && enters entries.now.list.items other.0 (text entry.now.path)) }
+// Whether the paths are the same. Most paths that differ begin alike, so the last bytes are looked at first.
+fn are_same(path: &[u8], other: &[u8]) -> bool
+    ensures { Decides result (path.now ≡ other.now) }
 {
-    entry.dom == dom && entries.enters(other, entry.path.as_bytes())
+    path.len() == other.len() && path.last() == other.last() && path == other
 }
 
-// Whether the two domains have an entry path in common.
-fn shares(tables: &Tables, dom: Dom, other: Dom) -> bool
-    ensures { result ≡ shares (model tables.now).entries dom.0 other.0 }
+// Marks the domains above the given one that have the path as an entry path.
+fn mark_entered(row: &mut [bool; 32], entries: &[Entry], low: Dom, path: &[u8])
+    ensures { Entered entries.now low.0 path.now row.old row.new }
 {
-    let entries = tables.entries();
-    entries
-        .as_slice()
-        .iter()
-        .any(|entry| is_shared(entries, entry, dom, other))
+    for entry in entries {
+        let dom = entry.dom.0;
+        if low.0 < dom && dom < 32 && are_same(entry.path.as_bytes(), path) {
+            row[usize::from(dom)] = true;
+        }
+    }
 }
 
-// Which of the higher domains have an entry path in common with this one.
+// Which of the higher domains have an entry path in common with this one. A pass for each of its entry paths marks them all at once.
 fn sharers(tables: &Tables, low: Dom) -> [bool; 32]
     ensures { Sharers (model tables.now).entries low.0 result }
 {
-    array::from_fn(|f| usize::from(low.0) < f && shares(tables, low, Dom(f as u8)))
+    let entries = tables.entries().as_slice();
+    let mut row = [false; 32];
+    for entry in entries {
+        if entry.dom == low {
+            mark_entered(&mut row, entries, low, entry.path.as_bytes());
+        }
+    }
+    row
 }
 
 impl Sharing<'_> {

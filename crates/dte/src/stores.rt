@@ -1,15 +1,24 @@
 // `dte store`: looking into and changing the memory image of a store.
 use crate::files::{read_file, write_file};
-use anyhow::{anyhow, bail};
+use anyhow::{Context, anyhow, bail};
 use std::alloc::Global;
 use store_report::{Make, clear_in_image, fresh_image, list_image, put_in_image};
 
 const USAGE: &str =
     "usage: dte store slot|packed FILE [put PLACE HEX | clear PLACE | fresh PLACES]";
 
+const NO_DIGIT: &str = "HEX has a byte that is no hexadecimal digit";
+
+const ODD: &str = "HEX has an odd number of digits";
+
 // The byte that two hexadecimal digits stand for.
 fn byte_of(pair: &[u8]) -> anyhow::Result<u8> {
-    Ok(u8::from_str_radix(std::str::from_utf8(pair)?, 16)?)
+    let [high, low] = pair else {
+        bail!(ODD);
+    };
+    let high = char::from(*high).to_digit(16).context(NO_DIGIT)?;
+    let low = char::from(*low).to_digit(16).context(NO_DIGIT)?;
+    Ok(u8::try_from(high * 16 + low)?)
 }
 
 // The bytes that pairs of hexadecimal digits stand for; a dash stands for none.
@@ -19,10 +28,10 @@ fn unhex(heap: Global, text: &str) -> anyhow::Result<Vec<u8>> {
     }
     let digits = text.as_bytes();
     if !digits.iter().all(|digit| digit.is_ascii_hexdigit()) {
-        bail!("HEX has a byte that is no hexadecimal digit");
+        bail!(NO_DIGIT);
     }
     if digits.len() % 2 != 0 {
-        bail!("HEX has an odd number of digits");
+        bail!(ODD);
     }
     digits.chunks_exact(2).map(byte_of).try_collect(heap)
 }

@@ -5,6 +5,8 @@ pub mod Marks
 pub mod Ranges
 pub mod Nodes
 pub mod LinkParts
+pub mod Targets
+pub mod BlankRows
 pub mod Lives
 pub mod Explored
 pub mod Nearest

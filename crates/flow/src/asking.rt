@@ -1,9 +1,8 @@
 //! What a sealed policy allows, in the machine's words.
-ghost use Rattle.std.specs.Prelude.{◌≡◌, ℕ, true, ◌↔◌};
-ghost use Rattle.machine.specs.Policy.{reading};
+ghost use Rattle.std.specs.Prelude.{◌≡◌};
+ghost use Rattle.machine.specs.Policy.{reading, running};
 ghost use Rattle.policy.specs.Abstract.{asked};
 ghost use Rattle.flow.specs.Allows.{allowed, changed};
-ghost use Rattle.flow.specs.Passages.{Passes};
 
 use label::numbers::{Dom, Obj};
 use policy::sealed::Sealed;
@@ -24,9 +23,9 @@ pub(crate) fn may_change(policy: &Sealed, dom: Dom, obj: Obj) -> bool
         || policy.decide(dom, obj, 'c').is_ok()
 }
 
-// Whether the domain may pass to the other, by some object.
-pub(crate) fn may_pass(policy: &Sealed, dom: Dom, to: Dom) -> bool
-    ensures { (result ≡ true) ↔ Passes (asked policy.now.policy) dom.0 to.0 }
+// Whether the domain may run the object.
+pub(crate) fn may_run(policy: &Sealed, dom: Dom, obj: Obj) -> bool
+    ensures { result ≡ allowed (asked policy.now.policy) running dom.0 obj.0 }
 {
-    (0..128u8).any(|o| policy.passes(dom, Obj(o), to))
+    policy.decide(dom, obj, 'x').is_ok()
 }

@@ -1,8 +1,8 @@
 //! Relations between nodes, and their tables.
-ghost use Rattle.std.specs.Prelude.{◌≡◌, ◌<◌, true, ◌↔◌};
+ghost use Rattle.std.specs.Prelude.{◌≡◌, ◌<◌};
 ghost use Rattle.machine.specs.Flow.{Node as Meant, number};
 ghost use Rattle.flow.specs.Nodes.{Numbered, meant};
-ghost use Rattle.flow.specs.Tables.{RowOf, TableOf};
+ghost use Rattle.flow.specs.Tables.{LeadsTo, RowOf, TableOf};
 
 use crate::chart::Links;
 use crate::node::Node;
@@ -12,22 +12,25 @@ use std::array;
 pub(crate) trait Relation {
     ghost holds: { Self → Meant → Meant → Type 0 };
 
-    // Whether the one node is related to the other.
-    fn relates(&self, from: Node, to: Node) -> bool
-        ensures { (result ≡ true) ↔ holds self.now (meant from) (meant to) };
+    // The nodes to which the node is related. What holds of all of them is asked once for the row.
+    fn row(&self, from: Node) -> [bool; NODES]
+        ensures { RowOf (holds self.now (meant from)) result };
+}
+
+// The row that leads to the marked domains, and to no object.
+pub(crate) fn to_domains(marks: &[bool; 32]) -> [bool; NODES]
+    ensures { LeadsTo marks.now result }
+{
+    let mut row = [false; NODES];
+    row[128..].copy_from_slice(marks);
+    row
 }
 
 // The nodes to which the node of a number is related.
 fn row<R: Relation>(relation: &R, u: u8) -> [bool; NODES]
     ensures { (x : Meant) → Numbered x → number x ≡ u → RowOf (R.holds relation.now x) result }
 {
-    let from = Node::from(u);
-    array::from_fn(
-        |v|
-            requires { v < 256 }
-            ensures { (y : Meant) → Numbered y → number y ≡ v → (result ≡ true) ↔ R.holds relation.entry.now (meant from) y }
-        { relation.relates(from, Node::from(v as u8)) },
-    )
+    relation.row(Node::from(u))
 }
 
 impl Links {

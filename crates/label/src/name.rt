@@ -5,7 +5,7 @@ ghost use Rattle.label.specs.Names.{IsName};
 
 use crate::short::Short;
 
-#[derive(Clone, Copy, PartialEq, Debug)]
+#[derive(Clone, Copy, PartialEq)]
 pub struct Name {
     pub(crate) text: Short<24>,
     ghost ok: { ∥ IsName (take text.len text.bytes) ∥₁ },

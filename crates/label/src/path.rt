@@ -4,7 +4,7 @@ ghost use Rattle.label.specs.Paths.{IsPath};
 
 use crate::short::Short;
 
-#[derive(Clone, Copy, PartialEq, Debug)]
+#[derive(Clone, Copy, PartialEq)]
 pub struct Path {
     pub(crate) text: Short<64>,
     ghost ok: { ∥ IsPath (take text.len text.bytes) ∥₁ },

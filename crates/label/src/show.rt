@@ -25,6 +25,18 @@ impl fmt::Display for Path {
     }
 }
 
+impl fmt::Debug for Name {
+    fn fmt<W: fmt::Write>(&self, f: &mut fmt::Formatter<W>) -> fmt::Result {
+        fmt::Debug::fmt(&self.text, f)
+    }
+}
+
+impl fmt::Debug for Path {
+    fn fmt<W: fmt::Write>(&self, f: &mut fmt::Formatter<W>) -> fmt::Result {
+        fmt::Debug::fmt(&self.text, f)
+    }
+}
+
 // The letters in their order; a dash stands for none.
 impl fmt::Display for Rights {
     ghost output = { λ s. Some (letters s) };

@@ -128,6 +128,11 @@ mod tests {
             format!(in heap; "{name} {path} {name:>7}|")?.as_str(),
             "t_log /log/day   t_log|"
         );
+        let root = Path::root();
+        assert_eq!(rt;
+            format!(in heap; "{name:?} {path:?} {root:?}")?.as_str(),
+            "t_log /log/day /"
+        );
         let read = Rights::of('r').ok_or("r is refused")?;
         let descend = Rights::of('d').ok_or("d is refused")?;
         let both = descend.union(read);

@@ -1,5 +1,8 @@
 // Records in a memory.
-ghost use Rattle.std.specs.Prelude.{◌≡◌, ℕ, ◌+◌, ◌<◌, ◌≤◌, true, length, drop, None, MatchOption, slice_set};
+ghost use Rattle.std.specs.Prelude.{◌≡◌, ℕ, ◌+◌, ◌<◌, ◌≤◌, true, length, drop, Some, None, IfNone, MatchOption, nat_eq, slice_set};
+ghost use Rattle.std.specs.Map.{update};
+ghost use Rattle.std.specs.Option.{option_map};
+ghost use Rattle.store.specs.Answers.{laid};
 ghost use Rattle.std.proofs.Common.{lit≤};
 ghost use Rattle.std.proofs.Props.{props};
 ghost use Rattle.store.specs.Memory.{places_in};
@@ -47,14 +50,33 @@ impl Layout for Records {
 
     ghost apart = { λ xs no ok. no (table xs) (intact_holds xs ok) };
 
-    fn read(all: &[u8], place: usize, buffer: &mut [u8]) -> Option<usize> {
+    // These three keep their promises over any memory, sound or not: a scan goes as far as it finds records.
+    fn read(all: &[u8], place: usize, buffer: &mut [u8]) -> Option<usize>
+        ensures length { 64 ≤ length buffer.old → result ≡ option_map length (packed_contents all.now place) }
+        ensures buffer { 64 ≤ length buffer.old → buffer.new ≡ laid (packed_contents all.now place) buffer.old }
+        ensures no_place { packed_places all.now ≤ place → result ≡ None }
+        ensures small { length buffer.old < 64 → result ≡ None }
+        ensures untouched { IfNone result (buffer.new ≡ buffer.old) }
+    {
+        if place >= place_count(all, RECORD) || buffer.len() < LONGEST {
+            return None;
+        }
         let start = find(all, place);
         let len = record_length(all, start, place)?;
         buffer[..len].copy_from_slice(&all[start + 2..start + 2 + len]);
         Some(len)
     }
 
-    fn write(all: &mut [u8], place: usize, bytes: &[u8]) {
+    fn write(all: &mut [u8], place: usize, bytes: &[u8])
+        ensures held { place < packed_places all.old → length bytes.now ≤ 64 → Holds all.new (slice_set (table all.old) place (Some bytes.now)) }
+        ensures contents { place < packed_places all.old → length bytes.now ≤ 64 → packed_contents all.new ≡ update nat_eq (packed_contents all.old) place (Some bytes.now) }
+        ensures sound { intact all.old ≡ true → intact all.new ≡ true }
+        ensures no_place { packed_places all.old ≤ place → all.new ≡ all.old }
+        ensures long { 64 < length bytes.now → all.new ≡ all.old }
+    {
+        if place >= place_count(all, RECORD) || bytes.len() > LONGEST {
+            return;
+        }
         let len = bytes.len();
         let start = open_gap(all, place, 2 + len);
         all[start] = place as u8;
@@ -62,8 +84,15 @@ impl Layout for Records {
         all[start + 2..start + 2 + len].copy_from_slice(bytes);
     }
 
-    fn erase(all: &mut [u8], place: usize) {
-        let _ = open_gap(all, place, 0);
+    fn erase(all: &mut [u8], place: usize)
+        ensures held { place < packed_places all.old → Holds all.new (slice_set (table all.old) place None) }
+        ensures contents { place < packed_places all.old → packed_contents all.new ≡ update nat_eq (packed_contents all.old) place None }
+        ensures sound { intact all.old ≡ true → intact all.new ≡ true }
+        ensures no_place { packed_places all.old ≤ place → all.new ≡ all.old }
+    {
+        if place < place_count(all, RECORD) {
+            let _ = open_gap(all, place, 0);
+        }
     }
 
     fn erase_all(all: &mut [u8]) {

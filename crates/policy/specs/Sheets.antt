@@ -1,5 +1,5 @@
 -- The sheets of a sealed policy: one for each object, with a cell for each domain.
-use Rattle.std.specs.Prelude.{◌≡◌, ℕ, suc, ◌<◌, false, cond, List, [], ◌∷◌, length, Some, None, Option, slice_index_or}
+use Rattle.std.specs.Prelude.{◌≡◌, ℕ, suc, ◌<◌, false, cond, List, [], ◌∷◌, length, replicate, Some, None, Option, slice_index_or}
 use Rattle.std.specs.Option.{option_map}
 use Rattle.label.specs.Letters.{none}
 use Rattle.label.specs.declared.numbers.Dom.{Dom}
@@ -14,6 +14,10 @@ use Rattle.policy.specs.Holds.{model_of}
 
 abbrev pub blank_cell : Cell
 blank_cell = record { barrier = None; long = 0; letters = none; enters = false; target = None }
+
+-- what stands where there is no object
+abbrev pub blank_sheet : Sheet
+blank_sheet = record { typ = record { 0 = 0 }; cells = replicate 32 blank_cell }
 
 abbrev pub cell_at : Sheet → ℕ → Cell
 cell_at s d = slice_index_or s.cells d blank_cell

@@ -6,7 +6,7 @@ ghost use Rattle.label.specs.Texts.{text};
 ghost use Rattle.label.specs.declared.refusal.Refusal.TheVariants.{Incomplete};
 ghost use Rattle.tables.specs.Entries.{enters};
 ghost use Rattle.tables.specs.Model.{model};
-ghost use Rattle.policy.specs.Grants.{type_at, letters_on, barred, barrier, verdict, grant, grant_read};
+ghost use Rattle.policy.specs.Grants.{type_at, letters_on, barred, barrier, verdict, grant, grant_read, Above};
 ghost use Rattle.policy.specs.Passages.{leads, target};
 ghost use Rattle.policy.specs.Cells.{cell_of};
 ghost use Rattle.policy.specs.Holds.{model_of, complete};
@@ -20,7 +20,6 @@ use label::paths::is_ancestor;
 use label::refusal::Refusal;
 use label::rights::Rights;
 use rules::rule::Flag;
-use std::array;
 use tables::holding::Passage;
 use tables::table::Tables;
 
@@ -93,6 +92,19 @@ impl Policy {
         }
     }
 
+    // The type of each ancestor, by its length. Most paths are short, so no more lengths are gone through than the path has.
+    // A decision allocates nothing, so the types are a fixed array.
+    fn types_above(&self, path: &[u8]) -> [Option<Typ>; 64]
+        requires { length path.now ≤ 64 }
+        ensures { Above (model_of self.now) path.now result (length path.now) }
+    {
+        let mut types = [None; 64];
+        for n in 1..path.len() {
+            types[n] = self.type_above(path, n);
+        }
+        types
+    }
+
     // What the tables say of the path.
     pub(crate) fn site<'a>(&'a self, path: &'a Path) -> Site<'a>
         ensures policy { result.policy.now ≡ self.now }
@@ -102,8 +114,7 @@ impl Policy {
         Site {
             policy: self,
             path: bytes,
-            // A decision allocates nothing, so the ancestors' types are a fixed array.
-            above: array::from_fn(|n| self.type_above(bytes, n)),
+            above: self.types_above(bytes),
             typ: self.type_of(path),
             entered: self.tables.entries().entered_by(bytes),
         }

@@ -7,7 +7,7 @@ ghost use Rattle.policy.specs.Grants.{path_of, no_object};
 ghost use Rattle.policy.specs.Cells.{known};
 ghost use Rattle.policy.specs.Holds.{model_of, decision, read_decision};
 ghost use Rattle.policy.specs.Passages.{passage_to, runs, entered, pass, auto};
-ghost use Rattle.policy.specs.Sheets.{SheetFor, CellsMade, TypesMade, type_number, sheet_at};
+ghost use Rattle.policy.specs.Sheets.{SheetFor, CellsMade, TypesMade, type_number, sheet_at, blank_sheet};
 
 use crate::cell::{Cell, Sheet};
 use crate::complete::Policy;
@@ -21,7 +21,9 @@ use tables::holding::Passage;
 
 impl Sheet {
     // What stands where there is no object.
-    fn blank() -> Sheet {
+    fn blank() -> Sheet
+        ensures { result ≡ blank_sheet }
+    {
         let cell = Cell {
             barrier: None,
             long: 0,
@@ -49,13 +51,13 @@ impl Policy {
     }
 
     // What is decided about the object with this number, if there is one.
-    fn sheet_of(&self, o: usize) -> Sheet
+    fn sheet_of(&self, o: usize, blank: Sheet) -> Sheet
         ensures { o < length (model_of self.now).objects → SheetFor (model_of self.now) (path_of (model_of self.now) o) result }
     {
         self.tables
             .objects()
             .get(o)
-            .map_or_else(Sheet::blank, |path| self.sheet(path))
+            .map_or(blank, |path| self.sheet(path))
     }
 
     // Sealing cannot fail and a decision allocates nothing, so there is room for every object that a policy may have.
@@ -63,7 +65,12 @@ impl Policy {
         ensures cells { CellsMade self.now result }
         ensures types { TypesMade self.now result }
     {
-        array::from_fn(|o| self.sheet_of(o))
+        let blank = Sheet::blank();
+        array::from_fn(
+            |o|
+                ensures { o < length (model_of self.entry.now).objects → SheetFor (model_of self.entry.now) (path_of (model_of self.entry.now) o) result }
+            { self.sheet_of(o, blank) },
+        )
     }
 
     // Makes every decision on the objects, once.

@@ -8,7 +8,7 @@ ghost use Rattle.policy.specs.Holds.{model_of};
 use crate::complete::Policy;
 use label::numbers::Typ;
 
-#[derive(Drop)]
+#[derive(Clone, Copy)]
 pub struct Site<'a> {
     pub(crate) policy: &'a Policy,
     pub(crate) path: &'a [u8],

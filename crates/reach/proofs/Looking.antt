@@ -1,5 +1,5 @@
 -- What a step says of how far it leads.
-use Rattle.std.proofs.Common.{◌≡◌, ℕ, true, false, ◌≢◌, Some, None, Option, is_some, refl}
+use Rattle.std.proofs.Common.{◌≡◌, ℕ, true, ◌≢◌, Some, None, Option, is_some, refl}
 use Rattle.reach.specs.declared.table.Step.{Step}
 use Rattle.reach.specs.Queue.{far}
 use Rattle.reach.specs.Steps.{dist_of}
@@ -19,10 +19,6 @@ dist_is_far (Some t) n e = cc
 pub far_is_dist : (step : Option Step) (n : ℕ) → far step ≡ n → n ≢ 255 → dist_of step ≡ Some n
 far_is_dist None n e ne = absurd (ne (cc))
 far_is_dist (Some t) n e ne = cc
-
-pub not_found : (step : Option Step) → is_some step ≡ false → step ≡ None
-not_found None e = refl
-not_found (Some t) e = cc
 
 pub no_dist_is_none : (step : Option Step) → dist_of step ≡ None → step ≡ None
 no_dist_is_none None e = refl

@@ -40,13 +40,11 @@ fn start(from: &[bool; NODES]) -> Search
     };
     for (v, &is_source) in from.iter().enumerate() {
         if is_source {
-            search.find(
-                v,
-                Step {
-                    dist: 0,
-                    parent: v as u8,
-                },
-            );
+            let step = Step {
+                dist: 0,
+                parent: v as u8,
+            };
+            search.find(v, step);
         }
     }
     search

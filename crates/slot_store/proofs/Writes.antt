@@ -1,9 +1,7 @@
 -- What a write to one slot does to the contents of the memory.
-use Rattle.std.proofs.Common.{◌≡◌, ℕ, ◌+◌, ◌-◌, ◌*◌, ◌/◌, ◌<◌, ◌≤◌, min, true, false, eqb, ltb, List, length, set, Some, None, Option, sym, refl, ap, ◌∙◌, ⊎_elim, arith, length-drop, length-set, length-take, get_or-set_other, get_or-set_same, rules}
+use Rattle.std.proofs.Common.{◌≡◌, ℕ, ◌+◌, ◌-◌, ◌*◌, ◌/◌, ◌<◌, ◌≤◌, min, true, false, eqb, ltb, List, length, set, Some, None, Option, sym, refl, ap, ◌∙◌, ⊎_elim, arith, length-drop, length-take, get_or-set_other, get_or-set_same, rules}
 use Rattle.std.proofs.Math.Path.{fun_ext}
 use Rattle.std.proofs.lemmas.List.{get_or-take, get_or-drop, ext_get_or, places}
-use Rattle.std.proofs.lemmas.Slice.{overwrites}
-use borrow.Rule.Slice.PartMut.{put_mid}
 use Rattle.std.proofs.lemmas.Bool.{cases_eq, eq-eqb, ne_eqb, cases_lt, lt-ltb, le-ltb, cond-true, cond-false}
 use Rattle.std.specs.Map.{update}
 use Rattle.std.proofs.lemmas.Map.{update_here, update_apart}
@@ -55,18 +53,7 @@ module _ (xs ys : List ℕ) (at m : ℕ) (here : at < slot_places xs) (w : Wrote
   marks_stay_in_range ok le k lt =
       ⊎_elim (λ same. rw same (omega (arith, w.marked))) (λ ne. omega (arith, other_mark_stays k ne, ok k (let l : k < slot_places xs = omega (arith, same_places) in l))) (cases_eq k at)
 
--- What the two writes do to the memory.
-module _ (xs bytes part : List ℕ) (at : ℕ) (here : at < slot_places xs) (le : length bytes ≤ 64) (p : part ≡ bytes) where
-  pub bytes_written : Wrote xs (put_mid (65 * at + 1) (65 * at + 1 + length bytes - (65 * at + 1)) (set xs (65 * at) (length bytes + 1)) part) at (length bytes + 1)
-  bytes_written = rw p (record {
-    long = search (rules, places);
-    marked = search (rules, places);
-    other = λ j out. grind (arith, places, get_or-set_other, length-set, length-take);
-  })
-
-  pub bytes_stand : slot_bytes (put_mid (65 * at + 1) (65 * at + 1 + length bytes - (65 * at + 1)) (set xs (65 * at) (length bytes + 1)) part) at (length bytes) ≡ bytes
-  bytes_stand = rw p (search (rules, overwrites))
-
+-- What the one write of a clear does to the memory.
 pub mark_cleared : (xs : List ℕ) (at : ℕ) → at < slot_places xs → Wrote xs (set xs (65 * at) 0) at 0
 mark_cleared xs at here = record {
   long = search (rules, places);

@@ -26,6 +26,10 @@ slot_contents xs k = cond (nat_lt k (slot_places xs)) (slot_at xs k) None
 abbrev pub Marked : List ℕ → Type 0
 Marked xs = (k : ℕ) → k < slot_places xs → mark xs k ≤ 65
 
+-- the mark of the place k, if the memory has it, is at most 65
+abbrev pub MarkedAt : List ℕ → ℕ → Type 0
+MarkedAt xs k = k < slot_places xs → mark xs k ≤ 65
+
 -- the slot k holds this, byte for byte
 abbrev pub SlotIs : List ℕ → ℕ → Option (List ℕ) → Type 0
 SlotIs xs k None = mark xs k ≡ 0

@@ -1,9 +1,12 @@
 // Slots in a memory.
-ghost use Rattle.std.specs.Prelude.{◌≡◌, ℕ, ◌+◌, ◌*◌, ◌<◌, ◌≤◌, length, take, drop, MatchBool};
+ghost use Rattle.std.specs.Prelude.{◌≡◌, ℕ, ◌+◌, ◌*◌, ◌<◌, ◌≤◌, length, take, drop, Some, None, IfNone, nat_eq, MatchBool};
+ghost use Rattle.std.specs.Map.{update};
+ghost use Rattle.std.specs.Option.{option_map};
+ghost use Rattle.store.specs.Answers.{laid};
 ghost use Rattle.std.proofs.Common.{lit≤};
 ghost use Rattle.std.proofs.Props.{props};
 ghost use Rattle.store.specs.Memory.{places_in};
-ghost use Rattle.slot_store.specs.Layout.{slot_places, mark, slot_at, slot_contents, Marked, Laid};
+ghost use Rattle.slot_store.specs.Layout.{slot_places, mark, slot_bytes, slot_at, slot_contents, Marked, MarkedAt, Laid};
 ghost use Rattle.slot_store.specs.LayoutLaws.{contents_short, contents_octets, beyond_absent, contents_are_laid};
 ghost use Rattle.slot_store.specs.Frame.{Wrote, Unmarked};
 
@@ -42,22 +45,51 @@ impl Layout for Slots {
 
     ghost apart = { λ xs no. no };
 
-    fn read(all: &[u8], place: usize, buffer: &mut [u8]) -> Option<usize> {
+    // A read asks for no more soundness than that of its own slot.
+    fn read(all: &[u8], place: usize, buffer: &mut [u8]) -> Option<usize>
+        ensures length { MarkedAt all.now place → 64 ≤ length buffer.old → result ≡ option_map length (slot_contents all.now place) }
+        ensures buffer { MarkedAt all.now place → 64 ≤ length buffer.old → buffer.new ≡ laid (slot_contents all.now place) buffer.old }
+        ensures no_place { slot_places all.now ≤ place → result ≡ None }
+        ensures small { length buffer.old < 64 → result ≡ None }
+        ensures untouched { IfNone result (buffer.new ≡ buffer.old) }
+    {
+        if place >= place_count(all, SLOT) || buffer.len() < LONGEST {
+            return None;
+        }
         let at = SLOT * place;
-        let len = (all[at] as usize).checked_sub(1)?;
+        // A mark of memory that is no store's may be above 65.
+        let len = (all[at] as usize).checked_sub(1)?.min(LONGEST);
         buffer[..len].copy_from_slice(&all[at + 1..at + 1 + len]);
         Some(len)
     }
 
-    fn write(all: &mut [u8], place: usize, bytes: &[u8]) {
+    // What is written to a slot, and that no other byte changes, is promised of any memory.
+    fn write(all: &mut [u8], place: usize, bytes: &[u8])
+        ensures frame { place < slot_places all.old → length bytes.now ≤ 64 → Wrote all.old all.new place (length bytes.now + 1) }
+        ensures bytes { place < slot_places all.old → length bytes.now ≤ 64 → slot_bytes all.new place (length bytes.now) ≡ bytes.now }
+        ensures contents { Marked all.old → place < slot_places all.old → length bytes.now ≤ 64 → slot_contents all.new ≡ update nat_eq (slot_contents all.old) place (Some bytes.now) }
+        ensures sound { Marked all.old → Marked all.new }
+        ensures no_place { slot_places all.old ≤ place → all.new ≡ all.old }
+        ensures long { 64 < length bytes.now → all.new ≡ all.old }
+    {
+        if place >= place_count(all, SLOT) || bytes.len() > LONGEST {
+            return;
+        }
         let start = SLOT * place;
         let len = bytes.len();
         all[start] = (len + 1) as u8;
         all[start + 1..start + 1 + len].copy_from_slice(bytes);
     }
 
-    fn erase(all: &mut [u8], place: usize) {
-        all[SLOT * place] = 0;
+    fn erase(all: &mut [u8], place: usize)
+        ensures frame { place < slot_places all.old → Wrote all.old all.new place 0 }
+        ensures contents { Marked all.old → place < slot_places all.old → slot_contents all.new ≡ update nat_eq (slot_contents all.old) place None }
+        ensures sound { Marked all.old → Marked all.new }
+        ensures no_place { slot_places all.old ≤ place → all.new ≡ all.old }
+    {
+        if place < place_count(all, SLOT) {
+            all[SLOT * place] = 0;
+        }
     }
 
     fn erase_all(all: &mut [u8]) {

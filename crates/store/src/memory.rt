@@ -1,5 +1,5 @@
 // A store over a memory, whatever its layout.
-ghost use Rattle.std.specs.Prelude.{◌≡◌, ℕ, ◌<◌, ◌≤◌, List, length, Some, None, nat_eq, MatchBool, MatchResult};
+ghost use Rattle.std.specs.Prelude.{◌≡◌, ℕ, ◌<◌, ◌≤◌, List, length, Some, None, IfNone, nat_eq, MatchBool, MatchResult};
 ghost use Rattle.std.specs.Map.{update};
 ghost use Rattle.std.specs.Option.{option_map};
 ghost use Rattle.store.specs.Meaning.{Contents, Short, Octets, AllOctets, all_absent};
@@ -10,15 +10,15 @@ ghost use Rattle.store.specs.MemoryLaws.{few_places};
 use super::{LONGEST, MOST_PLACES, NotAStore, Store, StoreRefusal};
 use std::marker::PhantomData;
 
-/// How many places a memory has, if so many bytes are counted for a place.
+/// How many places a memory has, if so many bytes are counted for a place; none, if no bytes are.
 pub fn place_count(all: &[u8], bytes: usize) -> usize
-    requires { 0 < bytes }
     ensures { result ≡ places_in bytes all.now }
 {
-    (all.len() / bytes).min(MOST_PLACES)
+    all.len().checked_div(bytes).unwrap_or(0).min(MOST_PLACES)
 }
 
-/// How the bytes of a memory say what each place holds. Its functions are called for places that the memory has, and check nothing.
+/// How the bytes of a memory say what each place holds. A call for a place that the memory does not have, with too many bytes or with too small a
+/// buffer finds and changes nothing; what other calls find and change is promised of sound memory.
 pub trait Layout {
     /// The bytes of memory that are counted for a place.
     const PLACE: u8;
@@ -52,30 +52,28 @@ pub trait Layout {
 
     ghost apart: { (xs : List ℕ) → Foreign xs → Sound xs → ⊥ };
 
-    // Each call asks for its facts anew, since beside a `&mut` no ghost field is covered by the borrow checker; `MemoryStore` keeps them.
+    // Each promise takes soundness as a premise, since beside a `&mut` no ghost field is covered by the borrow checker; `MemoryStore` keeps it.
 
     /// The length of what the place holds, whose bytes are then the buffer's first, or `None` for an absent place.
     fn read(all: &[u8], place: usize, buffer: &mut [u8]) -> Option<usize>
-        requires in_range { place < places_in PLACE all.now }
-        requires sound { Sound all.now }
-        requires room { 64 ≤ length buffer.old }
-        ensures length { result ≡ option_map length (contents all.now place) }
-        ensures buffer { buffer.new ≡ laid (contents all.now place) buffer.old };
+        ensures length { Sound all.now → 64 ≤ length buffer.old → result ≡ option_map length (contents all.now place) }
+        ensures buffer { Sound all.now → 64 ≤ length buffer.old → buffer.new ≡ laid (contents all.now place) buffer.old }
+        ensures no_place { places_in PLACE all.now ≤ place → result ≡ None }
+        ensures small { length buffer.old < 64 → result ≡ None }
+        ensures untouched { IfNone result (buffer.new ≡ buffer.old) };
 
     /// Makes the place present with these bytes.
     fn write(all: &mut [u8], place: usize, bytes: &[u8])
-        requires in_range { place < places_in PLACE all.old }
-        requires sound { Sound all.old }
-        requires short { length bytes.now ≤ 64 }
-        ensures contents { contents all.new ≡ update nat_eq (contents all.old) place (Some bytes.now) }
-        ensures sound { Sound all.new };
+        ensures contents { Sound all.old → place < places_in PLACE all.old → length bytes.now ≤ 64 → contents all.new ≡ update nat_eq (contents all.old) place (Some bytes.now) }
+        ensures sound { Sound all.old → Sound all.new }
+        ensures no_place { places_in PLACE all.old ≤ place → all.new ≡ all.old }
+        ensures long { 64 < length bytes.now → all.new ≡ all.old };
 
     /// Makes the place absent.
     fn erase(all: &mut [u8], place: usize)
-        requires in_range { place < places_in PLACE all.old }
-        requires sound { Sound all.old }
-        ensures contents { contents all.new ≡ update nat_eq (contents all.old) place None }
-        ensures sound { Sound all.new };
+        ensures contents { Sound all.old → place < places_in PLACE all.old → contents all.new ≡ update nat_eq (contents all.old) place None }
+        ensures sound { Sound all.old → Sound all.new }
+        ensures no_place { places_in PLACE all.old ≤ place → all.new ≡ all.old };
 
     /// Makes every place absent, whatever the memory held.
     fn erase_all(all: &mut [u8])

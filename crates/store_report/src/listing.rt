@@ -1,28 +1,59 @@
-ghost use Rattle.std.specs.Prelude.{◌≡◌, ℕ, ◌<◌, ◌≤◌, List, ◌++◌, length, IfOk, Some, string_bytes, OnOk};
+ghost use Rattle.std.specs.Prelude.{◌≡◌, ℕ, ◌*◌, ◌<◌, ◌≤◌, false, List, ◌++◌, length, take, IfOk, Some, string_bytes, OnOk};
 ghost use Rattle.std.specs.Option.{option_map};
+ghost use Rattle.std.specs.Fmt.{digit_glyph};
+ghost use Rattle.std.specs.Str.{IsAscii};
 ghost use Rattle.store.specs.Answers.{laid};
-ghost use Rattle.store_report.specs.Listing.{hex, line, listing};
+ghost use Rattle.store_report.specs.Listing.{pairs, hex, line, listing};
 
 use std::alloc::{AllocError, Global};
 use std::fmt;
 use std::fmt::Write;
 use store::{LONGEST, Store};
 
-// Two lower-case hexadecimal digits a byte, and `-` for no bytes.
+// The most digits that a place's bytes are printed by.
+const MOST_DIGITS: usize = 2 * LONGEST;
+
+fn hex_digit(value: u8) -> u8
+    requires { value < 16 }
+    ensures { result ≡ digit_glyph false value }
+{
+    if value < 10 {
+        b'0' + value
+    } else {
+        b'a' + (value - 10)
+    }
+}
+
+// Lays the digits of the bytes, two for each, at the front.
+fn lay_pairs(digits: &mut [u8], bytes: &[u8])
+    requires room { 2 * length bytes.now ≤ length digits.old }
+    ensures pairs { take (2 * length bytes.now) digits.new ≡ pairs bytes.now }
+    ensures ascii { IsAscii (pairs bytes.now) }
+{
+    for (at, byte) in bytes.iter().enumerate() {
+        digits[2 * at] = hex_digit(*byte / 16);
+        digits[2 * at + 1] = hex_digit(*byte % 16);
+    }
+}
+
+// What a place holds: two lower-case hexadecimal digits a byte, and `-` for no bytes.
 #[derive(Drop)]
-struct Hex<'a>(&'a [u8]);
+struct Hex<'a> {
+    bytes: &'a [u8],
+    ghost short: { length bytes.now ≤ 64 },
+}
 
 impl<'a> fmt::Display for Hex<'a> {
-    ghost output = { λ h. Some (hex h.0.now) };
+    ghost output = { λ h. Some (hex h.bytes.now) };
 
     fn fmt<W: fmt::Write>(&self, f: &mut fmt::Formatter<W>) -> fmt::Result {
-        if self.0.is_empty() {
+        if self.bytes.is_empty() {
             return f.write_str("-");
         }
-        for &byte in self.0 {
-            write!(f, "{byte:02x}")?;
-        }
-        Ok(())
+        // A write costs more than a digit, so there is one for all of them.
+        let mut digits = [0u8; MOST_DIGITS];
+        lay_pairs(&mut digits, self.bytes);
+        f.write_str(std::str::from_utf8(&digits[..2 * self.bytes.len()]).unwrap())
     }
 }
 
@@ -49,7 +80,13 @@ fn push_line<S: Store>(
 {
     match read(store, place, buffer) {
         None => writeln!(text, "place {place} absent"),
-        Some(len) => writeln!(text, "place {place} present {}", Hex(&buffer[..len])),
+        Some(len) => writeln!(
+            text,
+            "place {place} present {}",
+            Hex {
+                bytes: &buffer[..len]
+            }
+        ),
     }
 }
 

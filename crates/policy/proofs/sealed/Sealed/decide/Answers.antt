@@ -1,4 +1,4 @@
-use Rattle.std.proofs.Common.{◌≡◌, ap, ◌∙◌, sym, rules}
+use Rattle.std.proofs.Common.{◌≡◌, ap, ◌∙◌, rules}
 use Rattle.label.specs.Letters.{has}
 use Rattle.policy.specs.Cells.{cell_of}
 use Rattle.policy.specs.Grants.{verdict, grant_on}
@@ -13,4 +13,4 @@ returns c =
     let refused : c.map_err.result ≡ refusal c.grant.result = search rules in
     refused
     ∙ ap refusal c.grant.ensures
-    ∙ answer-known (model_of c.args.self.now.policy) c.args.dom.0 c.args.obj.0 c.in_ok-cell.field-0 (λ x. verdict x.barrier (has x.letters l) x.long l) (sym c.in_ok-cell.was ∙ c.cell.ensures)
+    ∙ answer-known (model_of c.args.self.now.policy) c.args.dom.0 c.args.obj.0 c.in_ok-cell.field-0 (λ x. verdict x.barrier (has x.letters l) x.long l) (search rules)

@@ -1,4 +1,4 @@
-use Rattle.std.proofs.Common.{◌≡◌, ℕ, ◌<◌, true, not, ◌&&◌, List, length, take, sym, ap, ◌∙◌}
+use Rattle.std.proofs.Common.{◌≡◌, ℕ, ◌<◌, true, not, ◌&&◌, List, length, take, sym, ap, ◌∙◌, rules}
 use Rattle.std.proofs.lemmas.Bool.{and_parts, ltb-true}
 use Rattle.label.specs.Letters.{has, letter_d}
 use Rattle.label.specs.Paths.{ancestor}
@@ -16,6 +16,6 @@ returns-then-is_ancestor c =
     let p = s.path.now in
     let n = c.args.n in
     let d = c.args.dom.0 in
-    let above : ancestor p n ≡ true = sym c.is_ancestor.ensures ∙ c.if-is_ancestor.true in
+    let above : ancestor p n ≡ true = search rules in
     ap not (c.has.ensures ∙ ap (λ r. has r letter_d) (c.letters_on.ensures ∙ ap (letters_on m d) (s.ancestors n (within p n above) above)))
     ∙ sym (ap (λ b. b && not (holds m d (type_at m (take n p)) letter_d)) above)
