@@ -1,5 +1,5 @@
 //! Sets of objects.
-ghost use Rattle.std.specs.Prelude.{◌≡◌, ℕ, false};
+ghost use Rattle.std.specs.Prelude.{◌≡◌, ℕ, ◌<◌, false};
 ghost use Rattle.machine.specs.Flow.{of_type};
 ghost use Rattle.policy.specs.Abstract.{asked};
 ghost use Rattle.flow.specs.Sets.{among, joined, within};
@@ -43,7 +43,12 @@ impl Objects {
         ensures { (o : ℕ) → among result o ≡ within (asked policy.now.policy) (of_type (asked policy.now.policy) typ.0) o }
     {
         Objects {
-            members: array::from_fn(|o| has_type(policy, Obj(o as u8), typ)),
+            members: array::from_fn(
+                |o|
+                    requires { o < 128 }
+                    ensures { result ≡ within (asked policy.entry.now.policy) (of_type (asked policy.entry.now.policy) typ.0) o }
+                { has_type(policy, Obj(o as u8), typ) },
+            ),
         }
     }
 }

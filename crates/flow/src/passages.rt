@@ -13,7 +13,7 @@ use policy::sealed::Sealed;
 use reach::graph::NODES;
 use std::array;
 
-// The domains to which a domain, live or not, may pass by some object. Whether it may run an object is asked once, and not again for
+// The domains to which a domain, live or not, may pass by some object. An object that it may not run is asked about once, and not for
 // each of them.
 fn targets_of(policy: &Sealed, dom: Dom) -> [bool; 32]
     ensures { TargetsOf (asked policy.now.policy) dom.0 128 result }

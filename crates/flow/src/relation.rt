@@ -12,7 +12,7 @@ use std::array;
 pub(crate) trait Relation {
     ghost holds: { Self → Meant → Meant → Type 0 };
 
-    // The nodes to which the node is related. What holds of all of them is asked once for the row.
+    // The nodes to which the node is related, as one row: what rules out all of them is asked first.
     fn row(&self, from: Node) -> [bool; NODES]
         ensures { RowOf (holds self.now (meant from)) result };
 }

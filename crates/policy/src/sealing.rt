@@ -50,7 +50,7 @@ impl Policy {
         }
     }
 
-    // What is decided about the object with this number, if there is one.
+    // What is decided about the object with this number, and the blank sheet if there is none.
     fn sheet_of(&self, o: usize, blank: Sheet) -> Sheet
         ensures { o < length (model_of self.now).objects → SheetFor (model_of self.now) (path_of (model_of self.now) o) result }
     {

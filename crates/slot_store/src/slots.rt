@@ -63,7 +63,7 @@ impl Layout for Slots {
         Some(len)
     }
 
-    // What is written to a slot, and that no other byte changes, is promised of any memory.
+    // What is written to a slot, and that no byte outside the slot changes, is promised of any memory.
     fn write(all: &mut [u8], place: usize, bytes: &[u8])
         ensures frame { place < slot_places all.old → length bytes.now ≤ 64 → Wrote all.old all.new place (length bytes.now + 1) }
         ensures bytes { place < slot_places all.old → length bytes.now ≤ 64 → slot_bytes all.new place (length bytes.now) ≡ bytes.now }

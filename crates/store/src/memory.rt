@@ -52,7 +52,7 @@ pub trait Layout {
 
     ghost apart: { (xs : List ℕ) → Foreign xs → Sound xs → ⊥ };
 
-    // Each promise takes soundness as a premise, since beside a `&mut` no ghost field is covered by the borrow checker; `MemoryStore` keeps it.
+    // What is promised of contents takes soundness as a premise, since beside a `&mut` no ghost field is covered by the borrow checker; `MemoryStore` keeps it.
 
     /// The length of what the place holds, whose bytes are then the buffer's first, or `None` for an absent place.
     fn read(all: &[u8], place: usize, buffer: &mut [u8]) -> Option<usize>
